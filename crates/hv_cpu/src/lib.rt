@@ -1,0 +1,2 @@
+//! The registers of a hart.
+#![tactic(auto)]

@@ -1,0 +1,2 @@
+//! Control registers, traps and interrupts.
+#![tactic(auto)]

@@ -1,0 +1,2 @@
+//! One instruction.
+#![tactic(auto)]

@@ -1,0 +1,2 @@
+//! The outside: sources and sinks of bytes.
+#![tactic(auto)]

@@ -1,0 +1,2 @@
+//! Recordings of steps and interrupt lines.
+#![tactic(auto)]

@@ -1,0 +1,2 @@
+//! The instruction table.
+#![tactic(auto)]

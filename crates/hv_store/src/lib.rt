@@ -1,0 +1,2 @@
+//! The bare storage, and what a machine sees of it.
+#![tactic(auto)]

@@ -1,0 +1,2 @@
+//! The page walk.
+#![tactic(auto)]

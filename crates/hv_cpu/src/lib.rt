@@ -4,6 +4,10 @@
 ghost use Rattle.std.specs.Prelude.{◌≡◌, ◌<◌, ◌==◌, ◌||◌, nat_lt};
 ghost use Rattle.hv_cpu.specs.Regs.{reset_regs, reg, with_reg, spelled};
 
+mod interrupts;
+
+pub use interrupts::{Interrupts, LINES_MASK};
+
 use std::marker::Model;
 
 /// The bits of mstatus that can be set.

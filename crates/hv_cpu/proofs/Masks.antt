@@ -1,5 +1,5 @@
 -- Numbers inside a mask, and what keeps them there.
-use Rattle.std.proofs.Common.{◌≡◌, ℕ, ◌+◌, ◌-◌, ◌*◌, ◌/◌, ◌%◌, ◌^◌, ◌<◌, ◌≤◌, refl, sym, ap, ◌∙◌, arith, bit_and, bit_or}
+use Rattle.std.proofs.Common.{◌≡◌, ℕ, ◌+◌, sym, ap, ◌∙◌, arith, bit_and, bit_or}
 use Rattle.std.specs.Int.Bits.{or_add_and, and_zero_r}
 use Rattle.std.proofs.lemmas.Nat.Bits.{bit_at_and, bit_at_or, same_from_bits}
 
@@ -29,7 +29,7 @@ or_inside a b m p q = cc (or_and a b m)
 pub parts : (w a b : ℕ) → bit_and a b ≡ 0 → bit_and w (bit_or a b) ≡ w → bit_and w a + bit_and w b ≡ w
 parts w a b p q =
     let none : bit_and (bit_and w a) (bit_and w b) ≡ 0 =
-        and_twice w a b ∙ ap (λ (n : ℕ). bit_and w n) p ∙ and_zero_r w
+    and_twice w a b ∙ ap (λ (n : ℕ). bit_and w n) p ∙ and_zero_r w
     in
     let all : bit_or (bit_and w a) (bit_and w b) ≡ w = sym (and_or w a b) ∙ q in
     omega (arith, or_add_and (bit_and w a) (bit_and w b), none, all)
@@ -38,9 +38,9 @@ parts w a b p q =
 pub apart_sum : (v w a b : ℕ) → bit_and a b ≡ 0 → bit_and w b ≡ w → bit_or (bit_and v a) w ≡ bit_and v a + w
 apart_sum v w a b p q =
     let none : bit_and (bit_and v a) w ≡ 0 =
-        ap (λ (n : ℕ). bit_and (bit_and v a) n) (sym q)
-        ∙ same_from_bits (bit_and (bit_and v a) (bit_and w b)) (bit_and (bit_and v w) (bit_and a b)) (λ i. simp bit_at_and (omega arith))
-        ∙ ap (λ (n : ℕ). bit_and (bit_and v w) n) p
-        ∙ and_zero_r (bit_and v w)
+    ap (λ (n : ℕ). bit_and (bit_and v a) n) (sym q)
+    ∙ same_from_bits (bit_and (bit_and v a) (bit_and w b)) (bit_and (bit_and v w) (bit_and a b)) (λ i. simp bit_at_and (omega arith))
+    ∙ ap (λ (n : ℕ). bit_and (bit_and v w) n) p
+    ∙ and_zero_r (bit_and v w)
     in
     omega (arith, or_add_and (bit_and v a) w, none)

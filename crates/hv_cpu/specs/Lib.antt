@@ -1,4 +1,5 @@
 pub mod Lines
 pub mod Masks
+pub mod Modes
 pub mod Regs
 pub mod View

@@ -1,6 +1,7 @@
 -- The registers of a hart, as 50 plain words, and what is always so of them.
-use Rattle.std.specs.Prelude.{◌≡◌, ◌≢◌, ℕ, ◌/◌, ◌%◌, ◌^◌, ◌<◌, ◌==◌, if◌then◌else◌, List, [], ◌∷◌, slice_index}
+use Rattle.std.specs.Prelude.{◌≡◌, ◌≢◌, ℕ, ◌%◌, ◌<◌, ◌==◌, if◌then◌else◌, List, [], ◌∷◌, slice_index}
 use Rattle.std.specs.Int.RustNames.{bit_and}
+use Rattle.hv_word.specs.Words.{field_of}
 use Rattle.hv_cpu.specs.Masks.{mstatus_mask, medeleg_mask, mideleg_mask, interrupt_mask, satp_mask}
 
 -- mode is 0 for U, 1 for S and 3 for M; next is the page of the machine to be run on, 0 for none
@@ -64,7 +65,7 @@ pub record IsKept (r : Regs) : Type 0 where
   pub mode_fits : r.mode < 4
   pub mode_real : r.mode ≢ 2
   pub mstatus : bit_and r.mstatus mstatus_mask ≡ r.mstatus
-  pub mpp : r.mstatus / 2 ^ 11 % 2 ^ 2 ≢ 2
+  pub mpp : field_of r.mstatus 11 2 ≢ 2
   pub mtvec : r.mtvec % 4 < 2
   pub mepc : r.mepc % 4 ≡ 0
   pub medeleg : bit_and r.medeleg medeleg_mask ≡ r.medeleg

@@ -1,20 +1,8 @@
 -- How a Cpu is read as 50 words, and made of them again.
 use Rattle.std.specs.Prelude.{◌≢◌, ℕ, zero, suc, Option, Some, None}
 use Rattle.hv_cpu.specs.Regs.{Regs, IsKept}
-use Rattle.hv_cpu.specs.declared.Mode.{Mode}
-use Rattle.hv_cpu.specs.declared.Mode.TheVariants.{U, S, M}
+use Rattle.hv_cpu.specs.Modes.{mode_word, mode_of}
 use Rattle.hv_cpu.specs.declared.Cpu.TheInside.{Inside}
-
--- the two bits that name a mode (Privileged Architecture, section 1.2)
-abbrev pub mode_word : Mode → ℕ
-mode_word U = 0
-mode_word S = 1
-mode_word M = 3
-
-abbrev pub mode_of : ℕ → Mode
-mode_of zero = U
-mode_of (suc zero) = S
-mode_of (suc (suc _)) = M
 
 abbrev pub next_word : Option ℕ → ℕ
 next_word None = 0

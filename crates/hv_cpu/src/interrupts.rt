@@ -30,9 +30,7 @@ impl Flags for Interrupts {
 
     ghost exact = { ⊤ };
 
-    ghost table = {
-        (codes "SSI", 0x2) ∷ (codes "MSI", 0x8) ∷ (codes "STI", 0x20) ∷ (codes "MTI", 0x80) ∷ (codes "SEI", 0x200) ∷ (codes "MEI", 0x800) ∷ []
-    };
+    ghost table = { (codes "SSI", 0x2) ∷ (codes "MSI", 0x8) ∷ (codes "STI", 0x20) ∷ (codes "MTI", 0x80) ∷ (codes "SEI", 0x200) ∷ (codes "MEI", 0x800) ∷ [] };
 
     ghost set_of = { λ s. s.0 };
 

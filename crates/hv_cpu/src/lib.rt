@@ -1,13 +1,13 @@
 //! The registers of a hart.
 #![tactic(auto)]
 
-ghost use Rattle.std.specs.Prelude.{◌≡◌, ◌<◌, ◌==◌, ◌||◌, nat_lt};
+ghost use Rattle.std.specs.Prelude.{◌≡◌, ◌<◌, ◌==◌, ◌||◌, ◌⊎◌, nat_lt, IfSome, IfNone};
+ghost use Rattle.hv_cpu.specs.Modes.{mode_word};
 ghost use Rattle.hv_cpu.specs.Regs.{reset_regs, reg, with_reg, spelled};
 
 mod interrupts;
 
 pub use interrupts::{Interrupts, LINES_MASK};
-
 use std::marker::Model;
 
 /// The bits of mstatus that can be set.
@@ -29,6 +29,32 @@ pub enum Mode {
     U,
     S,
     M,
+}
+
+impl Mode {
+    /// The two bits that name the mode: 0 for U, 1 for S, 3 for M.
+    pub fn word(self) -> u32
+        ensures { result ≡ mode_word self }
+    {
+        match self {
+            Mode::U => 0,
+            Mode::S => 1,
+            Mode::M => 3,
+        }
+    }
+
+    /// The mode that `word` names; 2 and the words past 3 name none.
+    pub fn from_word(word: u32) -> Option<Mode>
+        ensures named { IfSome result (λ mode. mode_word mode ≡ word) }
+        ensures reserved { IfNone result ((word ≡ 2) ⊎ (3 < word)) }
+    {
+        match word {
+            0 => Some(Mode::U),
+            1 => Some(Mode::S),
+            3 => Some(Mode::M),
+            _ => None,
+        }
+    }
 }
 
 /// The registers of a hart: the program counter, x1 to x31, the mode, the control registers that are
@@ -252,17 +278,6 @@ impl Cpu {
         self.next.is_none_or(|next| next < pages)
     }
 
-    /// The mode as a word: 0 for U, 1 for S, 3 for M.
-    pub fn mode_word(&self) -> u32
-        ensures { result ≡ self.now.mode }
-    {
-        match self.mode {
-            Mode::U => 0,
-            Mode::S => 1,
-            Mode::M => 3,
-        }
-    }
-
     /// The registers as words: pc, x1 to x31, the mode, the control registers in the order of the
     /// fields, and `next` with 0 for none.
     pub fn words(&self) -> [u32; 50]
@@ -301,7 +316,7 @@ impl Cpu {
             self.x29,
             self.x30,
             self.x31,
-            self.mode_word(),
+            self.mode.word(),
             self.mstatus,
             self.mtvec,
             self.mepc,

@@ -1,0 +1,4 @@
+pub mod Access
+pub mod Interrupts
+pub mod Table
+pub mod Traps

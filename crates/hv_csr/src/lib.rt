@@ -1,2 +1,13 @@
 //! Control registers, traps and interrupts.
 #![tactic(auto)]
+
+mod access;
+mod csr;
+mod interrupts;
+mod status;
+mod traps;
+
+pub use access::{Illegal, csr_read, csr_write};
+pub use csr::Csr;
+pub use interrupts::pending;
+pub use traps::{mret, sret, take_trap};

@@ -1,0 +1,218 @@
+//! The control registers: their numbers, what is read from each, and what a write leaves.
+
+ghost use Rattle.std.specs.Prelude.{◌≡◌, ℕ, ◌%◌, ◌<◌};
+ghost use Rattle.std.specs.Int.RustNames.{bit_and};
+ghost use Rattle.hv_csr.specs.Table.{csr_of, row_of, merge, vector as vector_of, on_word as word_of};
+ghost use Rattle.hv_word.specs.Words.{field_of};
+
+use crate::status;
+use hv_cpu::{Cpu, MEDELEG_MASK, MIDELEG_MASK, MIE_MASK, SATP_MASK};
+
+/// The bits of mstatus that S sees.
+pub const SSTATUS_MASK: u32 = 0x000C_0122;
+/// The software interrupt of S in sip.
+const SSI_MASK: u32 = 0x2;
+/// 32 bits, with the extensions I, S and U.
+const MISA: u32 = 0x4014_0100;
+
+/// A control register, by its name in the manual.
+#[derive(Clone, Copy)]
+pub enum Csr {
+    Sstatus,
+    Sie,
+    Stvec,
+    Scounteren,
+    Sscratch,
+    Sepc,
+    Scause,
+    Stval,
+    Sip,
+    Satp,
+    Mstatus,
+    Misa,
+    Medeleg,
+    Mideleg,
+    Mie,
+    Mtvec,
+    Mcounteren,
+    Mstatush,
+    Mscratch,
+    Mepc,
+    Mcause,
+    Mtval,
+    Mip,
+    Mvendorid,
+    Marchid,
+    Mimpid,
+    Mhartid,
+}
+
+impl Csr {
+    /// The register with that number, None where no register has it.
+    pub fn find(number: u32) -> Option<Csr>
+        ensures { result ≡ csr_of number }
+    {
+        match number {
+            0x100 => Some(Csr::Sstatus),
+            0x104 => Some(Csr::Sie),
+            0x105 => Some(Csr::Stvec),
+            0x106 => Some(Csr::Scounteren),
+            0x140 => Some(Csr::Sscratch),
+            0x141 => Some(Csr::Sepc),
+            0x142 => Some(Csr::Scause),
+            0x143 => Some(Csr::Stval),
+            0x144 => Some(Csr::Sip),
+            0x180 => Some(Csr::Satp),
+            0x300 => Some(Csr::Mstatus),
+            0x301 => Some(Csr::Misa),
+            0x302 => Some(Csr::Medeleg),
+            0x303 => Some(Csr::Mideleg),
+            0x304 => Some(Csr::Mie),
+            0x305 => Some(Csr::Mtvec),
+            0x306 => Some(Csr::Mcounteren),
+            0x310 => Some(Csr::Mstatush),
+            0x340 => Some(Csr::Mscratch),
+            0x341 => Some(Csr::Mepc),
+            0x342 => Some(Csr::Mcause),
+            0x343 => Some(Csr::Mtval),
+            0x344 => Some(Csr::Mip),
+            0xF11 => Some(Csr::Mvendorid),
+            0xF12 => Some(Csr::Marchid),
+            0xF13 => Some(Csr::Mimpid),
+            0xF14 => Some(Csr::Mhartid),
+            _ => None,
+        }
+    }
+
+    /// The name in the manual, as in `mstatus`.
+    pub fn name(self) -> &'static str
+        ensures { result.now ≡ (row_of self).name }
+    {
+        match self {
+            Csr::Sstatus => "sstatus",
+            Csr::Sie => "sie",
+            Csr::Stvec => "stvec",
+            Csr::Scounteren => "scounteren",
+            Csr::Sscratch => "sscratch",
+            Csr::Sepc => "sepc",
+            Csr::Scause => "scause",
+            Csr::Stval => "stval",
+            Csr::Sip => "sip",
+            Csr::Satp => "satp",
+            Csr::Mstatus => "mstatus",
+            Csr::Misa => "misa",
+            Csr::Medeleg => "medeleg",
+            Csr::Mideleg => "mideleg",
+            Csr::Mie => "mie",
+            Csr::Mtvec => "mtvec",
+            Csr::Mcounteren => "mcounteren",
+            Csr::Mstatush => "mstatush",
+            Csr::Mscratch => "mscratch",
+            Csr::Mepc => "mepc",
+            Csr::Mcause => "mcause",
+            Csr::Mtval => "mtval",
+            Csr::Mip => "mip",
+            Csr::Mvendorid => "mvendorid",
+            Csr::Marchid => "marchid",
+            Csr::Mimpid => "mimpid",
+            Csr::Mhartid => "mhartid",
+        }
+    }
+
+    /// What is read from it on the hart with number `hart`.
+    pub fn read(self, cpu: &Cpu, hart: u32) -> u32
+        ensures { result ≡ (row_of self).read cpu.now hart }
+    {
+        match self {
+            Csr::Sstatus => cpu.mstatus & SSTATUS_MASK,
+            Csr::Sie => cpu.mie & cpu.mideleg,
+            Csr::Stvec => cpu.stvec,
+            Csr::Scounteren => 0,
+            Csr::Sscratch => cpu.sscratch,
+            Csr::Sepc => cpu.sepc,
+            Csr::Scause => cpu.scause,
+            Csr::Stval => cpu.stval,
+            Csr::Sip => cpu.mip & cpu.mideleg,
+            Csr::Satp => cpu.satp,
+            Csr::Mstatus => cpu.mstatus,
+            Csr::Misa => MISA,
+            Csr::Medeleg => cpu.medeleg,
+            Csr::Mideleg => cpu.mideleg,
+            Csr::Mie => cpu.mie,
+            Csr::Mtvec => cpu.mtvec,
+            Csr::Mcounteren => 0,
+            Csr::Mstatush => 0,
+            Csr::Mscratch => cpu.mscratch,
+            Csr::Mepc => cpu.mepc,
+            Csr::Mcause => cpu.mcause,
+            Csr::Mtval => cpu.mtval,
+            Csr::Mip => cpu.mip,
+            Csr::Mvendorid => 0,
+            Csr::Marchid => 0,
+            Csr::Mimpid => 0,
+            Csr::Mhartid => hart,
+        }
+    }
+
+    /// Writes `value` to it: each register keeps the bits that can be set in it.
+    #[tactic(auto, using(crate::proofs::Merge::cut_inside, crate::proofs::Merge::delegated_inside, crate::proofs::Merge::ssi_inside))]
+    pub fn write(self, cpu: &mut Cpu, value: u32)
+        ensures { cpu.new ≡ (row_of self).write cpu.old value }
+    {
+        match self {
+            Csr::Sstatus => cpu.mstatus = merged(cpu.mstatus, SSTATUS_MASK, value),
+            Csr::Sie => cpu.mie = merged(cpu.mie, cpu.mideleg, value),
+            Csr::Stvec => cpu.stvec = vector(value),
+            Csr::Sscratch => cpu.sscratch = value,
+            Csr::Sepc => cpu.sepc = on_word(value),
+            Csr::Scause => cpu.scause = value,
+            Csr::Stval => cpu.stval = value,
+            Csr::Sip => cpu.mip = merged(cpu.mip, cpu.mideleg & SSI_MASK, value),
+            Csr::Satp => cpu.satp = value & SATP_MASK,
+            Csr::Mstatus => cpu.mstatus = status::written(cpu.mstatus, value),
+            Csr::Medeleg => cpu.medeleg = value & MEDELEG_MASK,
+            Csr::Mideleg => cpu.mideleg = value & MIDELEG_MASK,
+            Csr::Mie => cpu.mie = value & MIE_MASK,
+            Csr::Mtvec => cpu.mtvec = vector(value),
+            Csr::Mscratch => cpu.mscratch = value,
+            Csr::Mepc => cpu.mepc = on_word(value),
+            Csr::Mcause => cpu.mcause = value,
+            Csr::Mtval => cpu.mtval = value,
+            Csr::Mip => cpu.mip = merged(cpu.mip, MIDELEG_MASK, value),
+            Csr::Scounteren => {}
+            Csr::Misa => {}
+            Csr::Mcounteren => {}
+            Csr::Mstatush => {}
+            Csr::Mvendorid => {}
+            Csr::Marchid => {}
+            Csr::Mimpid => {}
+            Csr::Mhartid => {}
+        }
+    }
+}
+
+// `word` with its bits in `mask` taken from `value`.
+#[tactic(auto, using(crate::proofs::Merge::merged_is, crate::proofs::Merge::merged_inside, crate::proofs::Merge::merged_mpp))]
+fn merged(word: u32, mask: u32, value: u32) -> u32
+    ensures is { result ≡ merge word mask value }
+    ensures inside { (m : ℕ) → bit_and word m ≡ word → bit_and mask m ≡ mask → bit_and result m ≡ result }
+    ensures mpp { bit_and mask 0x1800 ≡ 0 → field_of result 11 2 ≡ field_of word 11 2 }
+{
+    (word & !mask) | (value & mask)
+}
+
+// A trap vector: a reserved mode becomes mode 0.
+fn vector(value: u32) -> u32
+    ensures is { result ≡ vector_of value }
+    ensures mode { result % 4 < 2 }
+{
+    if value % 4 < 2 { value } else { on_word(value) }
+}
+
+// The word that `value` lies in.
+fn on_word(value: u32) -> u32
+    ensures is { result ≡ word_of value }
+    ensures aligned { result % 4 ≡ 0 }
+{
+    value - value % 4
+}

@@ -1,0 +1,78 @@
+//! Which interrupt is to be taken.
+
+ghost use Rattle.std.specs.Prelude.{◌≡◌, ◌-◌};
+ghost use Rattle.std.specs.Int.RustNames.{bit_and};
+ghost use Rattle.hv_csr.specs.Interrupts.{among, by_urgency, first_in, is_open_m, is_open_s, pending_of};
+
+use bitflags::Flags;
+use hv_cpu::{Cpu, Interrupts, Mode};
+use hv_word::field;
+
+/// The number of the interrupt to take: the most urgent that isn't delegated, else the most urgent
+/// delegated one, of those that are pending, enabled, and not held back by the mode. None where there
+/// is none.
+pub fn pending(cpu: &Cpu) -> Option<u32>
+    ensures { result ≡ pending_of cpu.now }
+{
+    let raised = cpu.mip & cpu.mie;
+    let delegated = raised & cpu.mideleg;
+    let own = if takes_own(cpu) {
+        most_urgent(without(raised, cpu.mideleg))
+    } else {
+        None
+    };
+    let down = if takes_delegated(cpu) {
+        most_urgent(delegated)
+    } else {
+        None
+    };
+    own.or(down)
+}
+
+// `raised` without the interrupts in `delegated`.
+#[tactic(auto, using(crate::proofs::Merge::without_is))]
+fn without(raised: u32, delegated: u32) -> u32
+    ensures { result ≡ raised - bit_and raised delegated }
+{
+    raised & !delegated
+}
+
+// The most urgent interrupt in a set.
+fn most_urgent(set: u32) -> Option<u32>
+    ensures { result ≡ first_in by_urgency set }
+{
+    let set = Interrupts::from_bits_retain(set);
+    if set.contains(Interrupts::MEI) {
+        Some(11)
+    } else if set.contains(Interrupts::MSI) {
+        Some(3)
+    } else if set.contains(Interrupts::MTI) {
+        Some(7)
+    } else if set.contains(Interrupts::SEI) {
+        Some(9)
+    } else if set.contains(Interrupts::SSI) {
+        Some(1)
+    } else if set.contains(Interrupts::STI) {
+        Some(5)
+    } else {
+        None
+    }
+}
+
+// Whether an interrupt that isn't delegated is taken: below M, and in M with MIE.
+fn takes_own(cpu: &Cpu) -> bool
+    ensures { result ≡ is_open_m cpu.now }
+{
+    cpu.mode != Mode::M || field::<3, 1>(cpu.mstatus) == 1
+}
+
+// Whether a delegated interrupt is taken: in U, and in S with SIE.
+fn takes_delegated(cpu: &Cpu) -> bool
+    ensures { result ≡ is_open_s cpu.now }
+{
+    match cpu.mode {
+        Mode::U => true,
+        Mode::S => field::<1, 1>(cpu.mstatus) == 1,
+        Mode::M => false,
+    }
+}

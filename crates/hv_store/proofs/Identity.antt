@@ -5,7 +5,6 @@ use Rattle.std.proofs.lemmas.Option.{slice_get-get_or}
 use Rattle.std.proofs.lemmas.List.FromFn.{length-map-range_with_len, get_or-map-range_with_len}
 use Rattle.std.proofs.lemmas.List.{length-replicate}
 use Rattle.std.proofs.Math.ListN.{length-set}
-use Rattle.hv_store.specs.declared.access.Slot.{Slot}
 use Rattle.hv_store.specs.Access.{identity, open_at}
 use Rattle.hv_store.specs.Zeros.{zeros}
 

@@ -10,3 +10,6 @@ pub use access::{Access, Refusal, Slot, Way};
 pub use space::Space;
 pub use steps::Steps;
 pub use store::Store;
+
+#[cfg(test)]
+mod tests;

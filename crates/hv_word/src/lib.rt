@@ -32,6 +32,7 @@ pub fn field_set<const LO: u32, const LEN: u32>(word: u32, value: u32) -> u32
 }
 
 /// The low `BITS` bits of `value`, with the highest of them copied into all bits above it.
+#[tactic(auto, using(crate::proofs::Fields::sext_plain, crate::proofs::Fields::sext_below))]
 pub fn sext<const BITS: u32>(value: u32) -> u32
     requires some { 1 ≤ BITS }
     requires inside { BITS ≤ 32 }
@@ -71,6 +72,7 @@ pub fn lane_put(word: u32, lane: Lane, value: u32) -> u32
 }
 
 // A number whose lowest `count` bits are ones.
+#[tactic(auto, using(crate::proofs::Fields::ones_low))]
 fn low_ones(count: u32) -> u32
     requires some { 1 ≤ count }
     requires inside { count ≤ 32 }
@@ -80,6 +82,7 @@ fn low_ones(count: u32) -> u32
 }
 
 // The `count` bits of `word` from bit `low` on.
+#[tactic(auto, using(crate::proofs::Fields::and_ones))]
 fn bits_at(word: u32, low: u32, count: u32) -> u32
     requires some { 1 ≤ count }
     requires inside { low + count ≤ 32 }
@@ -89,6 +92,7 @@ fn bits_at(word: u32, low: u32, count: u32) -> u32
 }
 
 // `word` with the `count` bits from bit `low` on taken from the low end of `value`.
+#[tactic(auto, using(crate::proofs::Fields::put_bits))]
 fn with_bits(word: u32, low: u32, count: u32, value: u32) -> u32
     requires some { 1 ≤ count }
     requires inside { low + count ≤ 32 }

@@ -6,7 +6,7 @@ ghost use Rattle.hv_word.specs.Words.{IsLane, field_of, field_put, lane_of, lane
 
 /// A part of a word that one access moves, in little-endian order.
 /// `Byte` holds 0 to 3 and `Half` 0 or 1, counted from the word's low end.
-#[derive(Clone, Copy)]
+#[derive(Clone, Copy, Debug, PartialEq, Eq)]
 pub enum Lane {
     Byte(u8),
     Half(u8),

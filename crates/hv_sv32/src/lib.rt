@@ -1,2 +1,246 @@
-//! The page walk.
+//! The page walk: from an address that an instruction uses to an address of the machine's storage.
 #![tactic(auto)]
+
+ghost use Rattle.std.specs.Prelude.{◌≡◌, ◌/◌, ◌^◌, ◌<◌, IfErr, IfOk, Some, length};
+ghost use Rattle.hv_word.specs.Words.{field_of};
+ghost use Rattle.hv_store.specs.Access.{got};
+ghost use Rattle.hv_store.specs.declared.access.Access.TheVariants.{Read};
+ghost use Rattle.hv_sv32.specs.Stop.{IsBelow, IsCause, walked};
+ghost use Rattle.hv_sv32.specs.Walk.{access_fault_of, at_first, at_second, from_first, from_second, is_bare, page_fault_of, placed, walk_of};
+
+mod entry;
+
+use entry::{effective_mode, grants, is_faulty, is_leaf, is_plain};
+use hv_cpu::{Cpu, Mode};
+use hv_store::{Access, Refusal, Space};
+use hv_word::field;
+
+/// Why an address leads nowhere: a trap of the instruction that used it, with the address as tval, or the refusal of an
+/// outer map to let a page table entry be read.
+#[derive(Clone, Copy, Debug, PartialEq, Eq)]
+pub enum Stop {
+    Trap { cause: u32, tval: u32 },
+    Refused(Refusal),
+}
+
+/// The address in storage of the byte that `address` names for an access, by the Sv32 page table of `cpu`. It is 4096 times
+/// a page of the machine and an offset, with at most 34 bits. Nothing is written.
+pub fn translate<S: Space>(
+    cpu: &Cpu,
+    space: &mut S,
+    address: u32,
+    access: Access,
+) -> Result<u64, Stop>
+    requires { 0 < S.room space.old }
+    ensures walks { walked result ≡ walk_of (S.storage space.old) (S.slots space.old) cpu.now address access }
+    ensures inside { IfOk result (λ place. place / 4096 < length (S.slots space.old)) }
+    ensures short { IfOk result (λ place. place < 2 ^ 34) }
+    ensures cause { IfErr result IsCause }
+    ensures level { IfErr result (IsBelow (S.depth space.old)) }
+    ensures storage { S.storage space.new ≡ S.storage space.old }
+    ensures slots { S.slots space.new ≡ S.slots space.old }
+    ensures depth { S.depth space.new ≡ S.depth space.old }
+    ensures place { S.place space.new ≡ S.place space.old }
+    ensures frame { S.frame space.new ≡ S.frame space.old }
+    ensures origin { S.origin space.new ≡ S.origin space.old }
+    ensures room { S.room space.new ≡ S.room space.old }
+{
+    if is_untranslated(cpu, access) {
+        place(space, address / 4096, address, access)
+    } else {
+        walk(cpu, space, address, access)
+    }
+}
+
+// From the first table on.
+fn walk<S: Space>(cpu: &Cpu, space: &mut S, address: u32, access: Access) -> Result<u64, Stop>
+    requires { 0 < S.room space.old }
+    ensures walks { let entry = got (S.storage space.old) (S.slots space.old) (field_of cpu.now.satp 0 22) (field_of address 22 10) Read
+        in walked result ≡ from_first (S.storage space.old) (S.slots space.old) cpu.now address access entry }
+    ensures inside { IfOk result (λ place. place / 4096 < length (S.slots space.old)) }
+    ensures short { IfOk result (λ place. place < 2 ^ 34) }
+    ensures cause { IfErr result IsCause }
+    ensures level { IfErr result (IsBelow (S.depth space.old)) }
+    ensures storage { S.storage space.new ≡ S.storage space.old }
+    ensures slots { S.slots space.new ≡ S.slots space.old }
+    ensures depth { S.depth space.new ≡ S.depth space.old }
+    ensures place { S.place space.new ≡ S.place space.old }
+    ensures frame { S.frame space.new ≡ S.frame space.old }
+    ensures origin { S.origin space.new ≡ S.origin space.old }
+    ensures room { S.room space.new ≡ S.room space.old }
+{
+    let table = field::<0, 22>(cpu.satp);
+    if table >= space.pages() {
+        return Err(Stop::Trap {
+            cause: access_fault(access),
+            tval: address,
+        });
+    }
+    match space.read(table, field::<22, 10>(address), Access::Read) {
+        Ok(entry) => first(cpu, space, entry, address, access),
+        Err(refusal) => Err(Stop::Refused(refusal)),
+    }
+}
+
+// From an entry of a first table on.
+fn first<S: Space>(
+    cpu: &Cpu,
+    space: &mut S,
+    entry: u32,
+    address: u32,
+    access: Access,
+) -> Result<u64, Stop>
+    requires { 0 < S.room space.old }
+    ensures walks { walked result ≡ at_first (S.storage space.old) (S.slots space.old) cpu.now address access entry }
+    ensures inside { IfOk result (λ place. place / 4096 < length (S.slots space.old)) }
+    ensures short { IfOk result (λ place. place < 2 ^ 34) }
+    ensures cause { IfErr result IsCause }
+    ensures level { IfErr result (IsBelow (S.depth space.old)) }
+    ensures storage { S.storage space.new ≡ S.storage space.old }
+    ensures slots { S.slots space.new ≡ S.slots space.old }
+    ensures depth { S.depth space.new ≡ S.depth space.old }
+    ensures place { S.place space.new ≡ S.place space.old }
+    ensures frame { S.frame space.new ≡ S.frame space.old }
+    ensures origin { S.origin space.new ≡ S.origin space.old }
+    ensures room { S.room space.new ≡ S.room space.old }
+{
+    if is_faulty(entry) {
+        Err(Stop::Trap {
+            cause: page_fault(access),
+            tval: address,
+        })
+    } else if is_leaf(entry) {
+        if field::<10, 10>(entry) == 0 && grants(cpu, access, entry) {
+            place(
+                space,
+                field::<20, 12>(entry) * 1024 + field::<12, 10>(address),
+                address,
+                access,
+            )
+        } else {
+            Err(Stop::Trap {
+                cause: page_fault(access),
+                tval: address,
+            })
+        }
+    } else if is_plain(entry) {
+        descend(cpu, space, field::<10, 22>(entry), address, access)
+    } else {
+        Err(Stop::Trap {
+            cause: page_fault(access),
+            tval: address,
+        })
+    }
+}
+
+// From a second table on.
+fn descend<S: Space>(
+    cpu: &Cpu,
+    space: &mut S,
+    table: u32,
+    address: u32,
+    access: Access,
+) -> Result<u64, Stop>
+    requires { 0 < S.room space.old }
+    ensures walks { let entry = got (S.storage space.old) (S.slots space.old) table (field_of address 12 10) Read
+        in walked result ≡ from_second (S.slots space.old) cpu.now address access entry }
+    ensures inside { IfOk result (λ place. place / 4096 < length (S.slots space.old)) }
+    ensures short { IfOk result (λ place. place < 2 ^ 34) }
+    ensures cause { IfErr result IsCause }
+    ensures level { IfErr result (IsBelow (S.depth space.old)) }
+    ensures storage { S.storage space.new ≡ S.storage space.old }
+    ensures slots { S.slots space.new ≡ S.slots space.old }
+    ensures depth { S.depth space.new ≡ S.depth space.old }
+    ensures place { S.place space.new ≡ S.place space.old }
+    ensures frame { S.frame space.new ≡ S.frame space.old }
+    ensures origin { S.origin space.new ≡ S.origin space.old }
+    ensures room { S.room space.new ≡ S.room space.old }
+{
+    if table >= space.pages() {
+        return Err(Stop::Trap {
+            cause: access_fault(access),
+            tval: address,
+        });
+    }
+    match space.read(table, field::<12, 10>(address), Access::Read) {
+        Ok(entry) => second(cpu, space, entry, address, access),
+        Err(refusal) => Err(Stop::Refused(refusal)),
+    }
+}
+
+// At an entry of a second table.
+fn second<S: Space>(
+    cpu: &Cpu,
+    space: &S,
+    entry: u32,
+    address: u32,
+    access: Access,
+) -> Result<u64, Stop>
+    ensures walks { walked result ≡ at_second (S.slots space.now) cpu.now address access entry }
+    ensures inside { IfOk result (λ place. place / 4096 < length (S.slots space.now)) }
+    ensures short { IfOk result (λ place. place < 2 ^ 34) }
+    ensures cause { IfErr result IsCause }
+    ensures level { IfErr result (IsBelow (S.depth space.now)) }
+{
+    if is_faulty(entry) {
+        Err(Stop::Trap {
+            cause: page_fault(access),
+            tval: address,
+        })
+    } else if is_leaf(entry) && grants(cpu, access, entry) {
+        place(space, field::<10, 22>(entry), address, access)
+    } else {
+        Err(Stop::Trap {
+            cause: page_fault(access),
+            tval: address,
+        })
+    }
+}
+
+// The address of the byte in a page of 22 bits, if the machine has that page.
+fn place<S: Space>(space: &S, page: u32, address: u32, access: Access) -> Result<u64, Stop>
+    requires { page < 2 ^ 22 }
+    ensures walks { walked result ≡ placed (S.slots space.now) page address access }
+    ensures inside { IfOk result (λ place. place / 4096 < length (S.slots space.now)) }
+    ensures short { IfOk result (λ place. place < 2 ^ 34) }
+    ensures cause { IfErr result IsCause }
+    ensures level { IfErr result (IsBelow (S.depth space.now)) }
+{
+    if page < space.pages() {
+        Ok(u64::from(page) * 4096 + u64::from(address % 4096))
+    } else {
+        Err(Stop::Trap {
+            cause: access_fault(access),
+            tval: address,
+        })
+    }
+}
+
+// Whether the address is that of the storage already: without a page table, or in mode M.
+fn is_untranslated(cpu: &Cpu, access: Access) -> bool
+    ensures { result ≡ is_bare cpu.now access }
+{
+    field::<31, 1>(cpu.satp) == 0 || effective_mode(cpu, access) == Mode::M
+}
+
+// The cause of a page fault.
+fn page_fault(access: Access) -> u32
+    ensures { result ≡ page_fault_of access }
+{
+    match access {
+        Access::Fetch => 12,
+        Access::Read => 13,
+        Access::Write => 15,
+    }
+}
+
+// The cause of an access fault.
+fn access_fault(access: Access) -> u32
+    ensures { result ≡ access_fault_of access }
+{
+    match access {
+        Access::Fetch => 1,
+        Access::Read => 5,
+        Access::Write => 7,
+    }
+}

@@ -1,0 +1,27 @@
+-- What a walk comes to, and how an answer of the code says it.
+use Rattle.std.specs.Prelude.{ℕ, ◌/◌, ◌%◌, ◌<◌, Result, Ok, Err}
+use Rattle.hv_store.specs.declared.access.Refusal.{Refusal}
+use Rattle.hv_sv32.specs.declared.Stop.{Stop}
+use Rattle.hv_sv32.specs.declared.Stop.TheVariants.{Trap, Refused}
+
+-- a page of the machine and the offset of a byte in it, or a trap, or the refusal of an outer map
+pub data Walked : Type 0 where
+  Found : (page offset : ℕ) → Walked
+  TrapWith : (cause tval : ℕ) → Walked
+  RefusedBy : Refusal → Walked
+
+-- an address is 4096 times its page, and its offset
+abbrev pub walked : Result ℕ Stop → Walked
+walked (Ok place) = Found (place / 4096) (place % 4096)
+walked (Err (Trap cause tval)) = TrapWith cause tval
+walked (Err (Refused refusal)) = RefusedBy refusal
+
+-- a trap's cause is one of the numbers 0 to 15
+abbrev pub IsCause : Stop → Type 0
+IsCause (Trap cause tval) = cause < 16
+IsCause (Refused refusal) = Unit {0}
+
+-- a refusal comes from a map whose level is below this
+abbrev pub IsBelow : ℕ → Stop → Type 0
+IsBelow depth (Trap cause tval) = Unit {0}
+IsBelow depth (Refused refusal) = refusal.level < depth

@@ -8,7 +8,7 @@ use Rattle.hv_store.specs.declared.access.Access.TheVariants.{Read, Write, Fetch
 use Rattle.hv_store.specs.declared.access.Refusal.{Refusal}
 use Rattle.hv_store.specs.declared.access.Slot.{Slot}
 use Rattle.hv_store.specs.Access.{got}
-use Rattle.hv_sv32.specs.Entry.{has_bit, is_faulty, is_leaf, is_plain, page_of, effective_mode, grants}
+use Rattle.hv_sv32.specs.Entry.{is_faulty, is_leaf, is_plain, page_of, effective_mode, grants}
 use Rattle.hv_sv32.specs.Stop.{Walked, Found, TrapWith, RefusedBy}
 
 -- the causes of a page fault and of an access fault (Privileged Architecture, section 3.1.15)
@@ -44,6 +44,10 @@ from_second F r address a None = outside address a
 from_second F r address a (Some (Err refusal)) = RefusedBy refusal
 from_second F r address a (Some (Ok e)) = at_second F r address a e
 
+-- through the second table, which is a page of the machine; bits 21:12 of the address choose the entry
+abbrev pub through_second : List ℕ → List Slot → Regs → ℕ → ℕ → Access → Walked
+through_second S F r table address a = from_second F r address a (got S F table (field_of address 12 10) Read)
+
 -- the page that a leaf of the first level names: it has 1024 pages, of which bits 21:12 of the address take one
 abbrev pub large_page : ℕ → ℕ → ℕ
 large_page e address = field_of e 20 12 * 1024 + field_of address 12 10
@@ -54,7 +58,7 @@ at_first S F r address a e =
     if is_faulty e then barred address a
     else if is_leaf e then
     (if (field_of e 10 10 == 0) && grants r a e then placed F (large_page e address) address a else barred address a)
-    else if is_plain e then from_second F r address a (got S F (page_of e) (field_of address 12 10) Read)
+    else if is_plain e then through_second S F r (page_of e) address a
     else barred address a
 
 abbrev pub from_first : List ℕ → List Slot → Regs → ℕ → Access → Option (Result ℕ Refusal) → Walked
@@ -62,12 +66,15 @@ from_first S F r address a None = outside address a
 from_first S F r address a (Some (Err refusal)) = RefusedBy refusal
 from_first S F r address a (Some (Ok e)) = at_first S F r address a e
 
+-- through the first table, whose page bits 21:0 of satp name; bits 31:22 of the address choose the entry
+abbrev pub through_first : List ℕ → List Slot → Regs → ℕ → Access → Walked
+through_first S F r address a = from_first S F r address a (got S F (field_of r.satp 0 22) (field_of address 22 10) Read)
+
 -- Whether an access isn't translated: in mode M, or while bit 31 of satp is clear. Its address is then that of the storage.
 abbrev pub is_bare : Regs → Access → Bool
 is_bare r a = (effective_mode r a == 3) || (field_of r.satp 31 1 == 0)
 
--- where the address of an access lies in a machine with storage S and map F; bits 21:0 of satp name the first table
+-- where the address of an access lies in a machine with storage S and map F
 abbrev pub walk_of : List ℕ → List Slot → Regs → ℕ → Access → Walked
 walk_of S F r address a =
-    if is_bare r a then placed F (address / 4096) address a
-    else from_first S F r address a (got S F (field_of r.satp 0 22) (field_of address 22 10) Read)
+    if is_bare r a then placed F (address / 4096) address a else through_first S F r address a

@@ -1,14 +1,13 @@
 //! The page walk: from an address that an instruction uses to an address of the machine's storage.
 #![tactic(auto)]
 
-ghost use Rattle.std.specs.Prelude.{◌≡◌, ◌/◌, ◌^◌, ◌<◌, IfErr, IfOk, Some, length};
-ghost use Rattle.hv_word.specs.Words.{field_of};
-ghost use Rattle.hv_store.specs.Access.{got};
-ghost use Rattle.hv_store.specs.declared.access.Access.TheVariants.{Read};
+ghost use Rattle.std.specs.Prelude.{◌≡◌, ◌/◌, ◌^◌, ◌<◌, IfErr, IfOk, length};
 ghost use Rattle.hv_sv32.specs.Stop.{IsBelow, IsCause, walked};
-ghost use Rattle.hv_sv32.specs.Walk.{access_fault_of, at_first, at_second, from_first, from_second, is_bare, page_fault_of, placed, walk_of};
+ghost use Rattle.hv_sv32.specs.Walk.{access_fault_of, at_first, at_second, is_bare, page_fault_of, placed, through_first, through_second, walk_of};
 
 mod entry;
+#[cfg(test)]
+mod tests;
 
 use entry::{effective_mode, grants, is_faulty, is_leaf, is_plain};
 use hv_cpu::{Cpu, Mode};
@@ -55,8 +54,7 @@ pub fn translate<S: Space>(
 // From the first table on.
 fn walk<S: Space>(cpu: &Cpu, space: &mut S, address: u32, access: Access) -> Result<u64, Stop>
     requires { 0 < S.room space.old }
-    ensures walks { let entry = got (S.storage space.old) (S.slots space.old) (field_of cpu.now.satp 0 22) (field_of address 22 10) Read
-        in walked result ≡ from_first (S.storage space.old) (S.slots space.old) cpu.now address access entry }
+    ensures walks { walked result ≡ through_first (S.storage space.old) (S.slots space.old) cpu.now address access }
     ensures inside { IfOk result (λ place. place / 4096 < length (S.slots space.old)) }
     ensures short { IfOk result (λ place. place < 2 ^ 34) }
     ensures cause { IfErr result IsCause }
@@ -71,19 +69,16 @@ fn walk<S: Space>(cpu: &Cpu, space: &mut S, address: u32, access: Access) -> Res
 {
     let table = field::<0, 22>(cpu.satp);
     if table >= space.pages() {
-        return Err(Stop::Trap {
-            cause: access_fault(access),
-            tval: address,
-        });
+        return Err(access_fault(address, access));
     }
     match space.read(table, field::<22, 10>(address), Access::Read) {
-        Ok(entry) => first(cpu, space, entry, address, access),
+        Ok(entry) => first_entry(cpu, space, entry, address, access),
         Err(refusal) => Err(Stop::Refused(refusal)),
     }
 }
 
 // From an entry of a first table on.
-fn first<S: Space>(
+fn first_entry<S: Space>(
     cpu: &Cpu,
     space: &mut S,
     entry: u32,
@@ -105,10 +100,7 @@ fn first<S: Space>(
     ensures room { S.room space.new ≡ S.room space.old }
 {
     if is_faulty(entry) {
-        Err(Stop::Trap {
-            cause: page_fault(access),
-            tval: address,
-        })
+        Err(page_fault(address, access))
     } else if is_leaf(entry) {
         if field::<10, 10>(entry) == 0 && grants(cpu, access, entry) {
             place(
@@ -118,18 +110,12 @@ fn first<S: Space>(
                 access,
             )
         } else {
-            Err(Stop::Trap {
-                cause: page_fault(access),
-                tval: address,
-            })
+            Err(page_fault(address, access))
         }
     } else if is_plain(entry) {
         descend(cpu, space, field::<10, 22>(entry), address, access)
     } else {
-        Err(Stop::Trap {
-            cause: page_fault(access),
-            tval: address,
-        })
+        Err(page_fault(address, access))
     }
 }
 
@@ -142,8 +128,7 @@ fn descend<S: Space>(
     access: Access,
 ) -> Result<u64, Stop>
     requires { 0 < S.room space.old }
-    ensures walks { let entry = got (S.storage space.old) (S.slots space.old) table (field_of address 12 10) Read
-        in walked result ≡ from_second (S.slots space.old) cpu.now address access entry }
+    ensures walks { walked result ≡ through_second (S.storage space.old) (S.slots space.old) cpu.now table address access }
     ensures inside { IfOk result (λ place. place / 4096 < length (S.slots space.old)) }
     ensures short { IfOk result (λ place. place < 2 ^ 34) }
     ensures cause { IfErr result IsCause }
@@ -157,19 +142,16 @@ fn descend<S: Space>(
     ensures room { S.room space.new ≡ S.room space.old }
 {
     if table >= space.pages() {
-        return Err(Stop::Trap {
-            cause: access_fault(access),
-            tval: address,
-        });
+        return Err(access_fault(address, access));
     }
     match space.read(table, field::<12, 10>(address), Access::Read) {
-        Ok(entry) => second(cpu, space, entry, address, access),
+        Ok(entry) => second_entry(cpu, space, entry, address, access),
         Err(refusal) => Err(Stop::Refused(refusal)),
     }
 }
 
 // At an entry of a second table.
-fn second<S: Space>(
+fn second_entry<S: Space>(
     cpu: &Cpu,
     space: &S,
     entry: u32,
@@ -183,17 +165,11 @@ fn second<S: Space>(
     ensures level { IfErr result (IsBelow (S.depth space.now)) }
 {
     if is_faulty(entry) {
-        Err(Stop::Trap {
-            cause: page_fault(access),
-            tval: address,
-        })
+        Err(page_fault(address, access))
     } else if is_leaf(entry) && grants(cpu, access, entry) {
         place(space, field::<10, 22>(entry), address, access)
     } else {
-        Err(Stop::Trap {
-            cause: page_fault(access),
-            tval: address,
-        })
+        Err(page_fault(address, access))
     }
 }
 
@@ -209,10 +185,7 @@ fn place<S: Space>(space: &S, page: u32, address: u32, access: Access) -> Result
     if page < space.pages() {
         Ok(u64::from(page) * 4096 + u64::from(address % 4096))
     } else {
-        Err(Stop::Trap {
-            cause: access_fault(access),
-            tval: address,
-        })
+        Err(access_fault(address, access))
     }
 }
 
@@ -223,24 +196,32 @@ fn is_untranslated(cpu: &Cpu, access: Access) -> bool
     field::<31, 1>(cpu.satp) == 0 || effective_mode(cpu, access) == Mode::M
 }
 
-// The cause of a page fault.
-fn page_fault(access: Access) -> u32
-    ensures { result ≡ page_fault_of access }
+// The trap of an address that its page table doesn't let through.
+fn page_fault(address: u32, access: Access) -> Stop
+    ensures { result ≡ Stop.Trap (page_fault_of access) address }
 {
-    match access {
+    let cause = match access {
         Access::Fetch => 12,
         Access::Read => 13,
         Access::Write => 15,
+    };
+    Stop::Trap {
+        cause,
+        tval: address,
     }
 }
 
-// The cause of an access fault.
-fn access_fault(access: Access) -> u32
-    ensures { result ≡ access_fault_of access }
+// The trap of an address whose entry or place the machine doesn't have.
+fn access_fault(address: u32, access: Access) -> Stop
+    ensures { result ≡ Stop.Trap (access_fault_of access) address }
 {
-    match access {
+    let cause = match access {
         Access::Fetch => 1,
         Access::Read => 5,
         Access::Write => 7,
+    };
+    Stop::Trap {
+        cause,
+        tval: address,
     }
 }

@@ -1,7 +1,7 @@
 //! Page table entries, and what they let an access do.
 
 ghost use Rattle.std.specs.Prelude.{◌≡◌, ◌+◌, ◌≤◌};
-ghost use Rattle.hv_cpu.specs.View.{mode_word};
+ghost use Rattle.hv_cpu.specs.Modes.{mode_word};
 ghost use Rattle.hv_sv32.specs.Entry as spec;
 
 use hv_cpu::{Cpu, Mode};
@@ -63,10 +63,9 @@ pub fn effective_mode(cpu: &Cpu, access: Access) -> Mode
     ensures { mode_word result ≡ spec.effective_mode cpu.now access }
 {
     if access != Access::Fetch && has_bit::<MPRV>(cpu.mstatus) {
-        match field::<11, 2>(cpu.mstatus) {
-            0 => Mode::U,
-            1 => Mode::S,
-            _ => Mode::M,
+        match Mode::from_word(field::<11, 2>(cpu.mstatus)) {
+            Some(mode) => mode,
+            None => unreachable!(),
         }
     } else {
         cpu.mode

@@ -1,7 +1,7 @@
 -- The 52 instructions and their words: RV32I, Zicsr and Zifencei (Unprivileged ISA, chapters 2, 3, 9
 -- and the listings of chapter 24), sret, mret, wfi and sfence.vma (Privileged Architecture, sections
 -- 3.3 and 4.2), and vmenter in the space for custom instructions.
-use Rattle.std.specs.Prelude.{ℕ, ◌≡◌, ◌+◌, ◌-◌, ◌*◌, ◌^◌, ◌%◌, ◌<◌, Bool, true, ◌==◌, ◌&&◌, List, [], ◌∷◌, Option, Some, None, find}
+use Rattle.std.specs.Prelude.{ℕ, ◌≡◌, ◌+◌, ◌*◌, ◌^◌, ◌%◌, ◌<◌, Bool, true, ◌==◌, ◌&&◌, List, [], ◌∷◌, Option, Some, None, find}
 use Rattle.std.specs.Option.{option_map}
 use Rattle.hv_word.specs.Words.{field_of, sext_of}
 use Rattle.hv_isa.specs.declared.Instr.{Instr}

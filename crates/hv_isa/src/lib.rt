@@ -240,7 +240,13 @@ fn rs2(word: u32) -> u8
 fn upper(op: Op, word: u32) -> Instr
     ensures { result ≡ fields_of (U 0) op word }
 {
-    Instr { op, rd: rd(word), rs1: 0, rs2: 0, imm: field::<12, 20>(word) << 12 }
+    Instr {
+        op,
+        rd: rd(word),
+        rs1: 0,
+        rs2: 0,
+        imm: field::<12, 20>(word) << 12,
+    }
 }
 
 fn jump(op: Op, word: u32) -> Instr
@@ -248,7 +254,13 @@ fn jump(op: Op, word: u32) -> Instr
 {
     let low = (field::<21, 10>(word) << 1) + (field::<20, 1>(word) << 11);
     let high = (field::<12, 8>(word) << 12) + (field::<31, 1>(word) << 20);
-    Instr { op, rd: rd(word), rs1: 0, rs2: 0, imm: sext::<21>(low + high) }
+    Instr {
+        op,
+        rd: rd(word),
+        rs1: 0,
+        rs2: 0,
+        imm: sext::<21>(low + high),
+    }
 }
 
 fn branch(op: Op, word: u32) -> Instr
@@ -256,57 +268,138 @@ fn branch(op: Op, word: u32) -> Instr
 {
     let low = (field::<8, 4>(word) << 1) + (field::<25, 6>(word) << 5);
     let high = (field::<7, 1>(word) << 11) + (field::<31, 1>(word) << 12);
-    Instr { op, rd: 0, rs1: rs1(word), rs2: rs2(word), imm: sext::<13>(low + high) }
+    Instr {
+        op,
+        rd: 0,
+        rs1: rs1(word),
+        rs2: rs2(word),
+        imm: sext::<13>(low + high),
+    }
 }
 
 fn immediate(op: Op, word: u32) -> Instr
     ensures { result ≡ fields_of (I 0 0) op word }
 {
     let imm = sext::<12>(field::<20, 12>(word));
-    Instr { op, rd: rd(word), rs1: rs1(word), rs2: 0, imm }
+    Instr {
+        op,
+        rd: rd(word),
+        rs1: rs1(word),
+        rs2: 0,
+        imm,
+    }
 }
 
 fn store(op: Op, word: u32) -> Instr
     ensures { result ≡ fields_of (S 0 0) op word }
 {
     let imm = sext::<12>(field::<7, 5>(word) + (field::<25, 7>(word) << 5));
-    Instr { op, rd: 0, rs1: rs1(word), rs2: rs2(word), imm }
+    Instr {
+        op,
+        rd: 0,
+        rs1: rs1(word),
+        rs2: rs2(word),
+        imm,
+    }
 }
 
 fn registers(op: Op, word: u32) -> Instr
     ensures { result ≡ fields_of (R 0 0 0) op word }
 {
-    Instr { op, rd: rd(word), rs1: rs1(word), rs2: rs2(word), imm: 0 }
+    Instr {
+        op,
+        rd: rd(word),
+        rs1: rs1(word),
+        rs2: rs2(word),
+        imm: 0,
+    }
 }
 
 fn shift(op: Op, word: u32) -> Instr
     ensures { result ≡ fields_of (Shift 0 0 0) op word }
 {
-    Instr { op, rd: rd(word), rs1: rs1(word), rs2: 0, imm: field::<20, 5>(word) }
+    Instr {
+        op,
+        rd: rd(word),
+        rs1: rs1(word),
+        rs2: 0,
+        imm: field::<20, 5>(word),
+    }
 }
 
 fn control(op: Op, word: u32) -> Instr
     ensures { result ≡ fields_of (Csr 0 0) op word }
 {
-    Instr { op, rd: rd(word), rs1: rs1(word), rs2: 0, imm: field::<20, 12>(word) }
+    Instr {
+        op,
+        rd: rd(word),
+        rs1: rs1(word),
+        rs2: 0,
+        imm: field::<20, 12>(word),
+    }
 }
 
 fn pair(op: Op, word: u32) -> Instr
     ensures { result ≡ fields_of (Pair 0 0 0) op word }
 {
-    Instr { op, rd: 0, rs1: rs1(word), rs2: rs2(word), imm: 0 }
+    Instr {
+        op,
+        rd: 0,
+        rs1: rs1(word),
+        rs2: rs2(word),
+        imm: 0,
+    }
 }
 
 fn one(op: Op, word: u32) -> Instr
     ensures { result ≡ fields_of (One 0 0) op word }
 {
-    Instr { op, rd: 0, rs1: rs1(word), rs2: 0, imm: 0 }
+    Instr {
+        op,
+        rd: 0,
+        rs1: rs1(word),
+        rs2: 0,
+        imm: 0,
+    }
 }
 
 fn whole(op: Op) -> Instr
     ensures { result ≡ fields_of (Whole 0 0 0) op 0 }
 {
-    Instr { op, rd: 0, rs1: 0, rs2: 0, imm: 0 }
+    Instr {
+        op,
+        rd: 0,
+        rs1: 0,
+        rs2: 0,
+        imm: 0,
+    }
+}
+
+// The word of an instruction, spelled in its row's format.
+macro_rules! spell {
+    ($instr:ident $opcode:literal (U)) => { spell_upper($opcode, $instr) };
+    ($instr:ident $opcode:literal (J)) => { spell_jump($opcode, $instr) };
+    ($instr:ident $opcode:literal (B $f3:literal)) => { spell_branch($opcode, $f3, $instr) };
+    ($instr:ident $opcode:literal (I $f3:literal)) => { spell_immediate($opcode, $f3, $instr) };
+    ($instr:ident $opcode:literal (S $f3:literal)) => { spell_store($opcode, $f3, $instr) };
+    ($instr:ident $opcode:literal (R $f3:literal $f7:literal)) => { spell_registers($opcode, $f3, $f7, $instr) };
+    ($instr:ident $opcode:literal (Shift $f3:literal $f7:literal)) => { spell_shift($opcode, $f3, $f7, $instr) };
+    ($instr:ident $opcode:literal (Csr $f3:literal)) => { spell_control($opcode, $f3, $instr) };
+    ($instr:ident $opcode:literal (Pair $f3:literal $f7:literal)) => { spell_registers($opcode, $f3, $f7, $instr) };
+    ($instr:ident $opcode:literal (One $f3:literal)) => { spell_registers($opcode, $f3, 0, $instr) };
+    ($instr:ident $opcode:literal (Whole $f7:literal $rs2:literal)) => { $opcode + ($rs2 << 20) + ($f7 << 25) };
+}
+
+macro_rules! encode_arms {
+    ([$instr:ident]
+        { $($single:literal $row:ident $text:literal $format:tt,)* }
+        $($opcode:literal { $($op:ident $name:literal $fixed:tt,)* })*
+    ) => {
+        match $instr.op {
+            $(Op::$row => spell!($instr $single $format),)*
+            $($(Op::$op => spell!($instr $opcode $fixed),)*)*
+        }
+    };
 }
 
 macro_rules! name_arms {
@@ -334,6 +427,109 @@ macro_rules! by_name_arms {
     };
 }
 
+fn spell_upper(opcode: u32, instr: &Instr) -> u32
+    requires opcode { opcode < 128 }
+    requires fits { Fits (U opcode) instr.now }
+    ensures { result ≡ spell (U opcode) instr.now }
+{
+    opcode + (u32::from(instr.rd) << 7) + instr.imm
+}
+
+fn spell_jump(opcode: u32, instr: &Instr) -> u32
+    requires opcode { opcode < 128 }
+    requires fits { Fits (J opcode) instr.now }
+    ensures { result ≡ spell (J opcode) instr.now }
+{
+    let imm = instr.imm;
+    let low = (field::<12, 8>(imm) << 12) + (field::<11, 1>(imm) << 20);
+    let high = (field::<1, 10>(imm) << 21) + (field::<20, 1>(imm) << 31);
+    opcode + (u32::from(instr.rd) << 7) + low + high
+}
+
+fn spell_branch(opcode: u32, f3: u32, instr: &Instr) -> u32
+    requires fixed { (opcode < 128) × (f3 < 8) }
+    requires fits { Fits (B opcode f3) instr.now }
+    ensures { result ≡ spell (B opcode f3) instr.now }
+{
+    let imm = instr.imm;
+    let low = (field::<11, 1>(imm) << 7) + (field::<1, 4>(imm) << 8);
+    let high = (field::<5, 6>(imm) << 25) + (field::<12, 1>(imm) << 31);
+    let registers = (u32::from(instr.rs1) << 15) + (u32::from(instr.rs2) << 20);
+    opcode + low + (f3 << 12) + registers + high
+}
+
+fn spell_immediate(opcode: u32, f3: u32, instr: &Instr) -> u32
+    requires fixed { (opcode < 128) × (f3 < 8) }
+    requires fits { Fits (I opcode f3) instr.now }
+    ensures { result ≡ spell (I opcode f3) instr.now }
+{
+    let registers = (u32::from(instr.rd) << 7) + (u32::from(instr.rs1) << 15);
+    opcode + (f3 << 12) + registers + (field::<0, 12>(instr.imm) << 20)
+}
+
+fn spell_store(opcode: u32, f3: u32, instr: &Instr) -> u32
+    requires fixed { (opcode < 128) × (f3 < 8) }
+    requires fits { Fits (S opcode f3) instr.now }
+    ensures { result ≡ spell (S opcode f3) instr.now }
+{
+    let imm = instr.imm;
+    let registers = (u32::from(instr.rs1) << 15) + (u32::from(instr.rs2) << 20);
+    opcode + (field::<0, 5>(imm) << 7) + (f3 << 12) + registers + (field::<5, 7>(imm) << 25)
+}
+
+fn spell_registers(opcode: u32, f3: u32, f7: u32, instr: &Instr) -> u32
+    requires fixed { (opcode < 128) × (f3 < 8) × (f7 < 128) }
+    requires fits { (instr.now.rd < 32) × (instr.now.rs1 < 32) × (instr.now.rs2 < 32) }
+    ensures { result ≡ spell (R opcode f3 f7) instr.now }
+{
+    let registers = (u32::from(instr.rs1) << 15) + (u32::from(instr.rs2) << 20);
+    opcode + (u32::from(instr.rd) << 7) + (f3 << 12) + registers + (f7 << 25)
+}
+
+fn spell_shift(opcode: u32, f3: u32, f7: u32, instr: &Instr) -> u32
+    requires fixed { (opcode < 128) × (f3 < 8) × (f7 < 128) }
+    requires fits { Fits (Shift opcode f3 f7) instr.now }
+    ensures { result ≡ spell (Shift opcode f3 f7) instr.now }
+{
+    let registers = (u32::from(instr.rd) << 7) + (u32::from(instr.rs1) << 15);
+    opcode + (f3 << 12) + registers + (instr.imm << 20) + (f7 << 25)
+}
+
+fn spell_control(opcode: u32, f3: u32, instr: &Instr) -> u32
+    requires fixed { (opcode < 128) × (f3 < 8) }
+    requires fits { Fits (Csr opcode f3) instr.now }
+    ensures { result ≡ spell (Csr opcode f3) instr.now }
+{
+    let registers = (u32::from(instr.rd) << 7) + (u32::from(instr.rs1) << 15);
+    opcode + (f3 << 12) + registers + (instr.imm << 20)
+}
+
+fn spell_row(instr: &Instr) -> u32
+    requires { Fits (row_of instr.now.op) instr.now }
+    ensures { result ≡ spell (row_of instr.now.op) instr.now }
+{
+    rows!(encode_arms instr)
+}
+
+/// The instruction whose word this is; None where no row has the word.
+pub fn decode(word: u32) -> Option<Instr>
+    ensures row { result ≡ decode_of word }
+    ensures found { IfSome result (λ i. Row i word) }
+    ensures only { (i : Instr) → Row i word → result ≡ Some i }
+    ensures registers { IfSome result NamesRegs }
+{
+    find_row(word)
+}
+
+/// The word of an instruction whose fields are in its row's ranges. `decode` gives it back.
+pub fn encode(instr: &Instr) -> u32
+    requires { Fits (row_of instr.now.op) instr.now }
+    ensures row { Row instr.now result }
+    ensures back { decode_of result ≡ Some instr.now }
+{
+    spell_row(instr)
+}
+
 /// The assembly name of an operation.
 pub fn name(op: Op) -> &'static str
     ensures { result.now ≡ name_of op }
@@ -341,10 +537,17 @@ pub fn name(op: Op) -> &'static str
     rows!(name_arms op)
 }
 
+fn find_name(text: &str) -> Option<Op>
+    ensures found { IfSome result (λ op. text.now ≡ name_of op) }
+    ensures none { IfNone result ((op : Op) → text.now ≢ name_of op) }
+{
+    rows!(by_name_arms text)
+}
+
 /// The operation of that name; None where no row has it.
 pub fn by_name(text: &str) -> Option<Op>
     ensures found { IfSome result (λ op. text.now ≡ name_of op) }
-    ensures only { IfNone result ((op : Op) → text.now ≢ name_of op) }
+    ensures only { (op : Op) → text.now ≡ name_of op → result ≡ Some op }
 {
-    rows!(by_name_arms text)
+    find_name(text)
 }

@@ -197,14 +197,20 @@ fields_of (J _) op w = record {
   rd = field_of w 7 5;
   rs1 = 0;
   rs2 = 0;
-  imm = sext_of 21 (field_of w 21 10 * 2 + field_of w 20 1 * 2 ^ 11 + field_of w 12 8 * 2 ^ 12 + field_of w 31 1 * 2 ^ 20);
+  imm =
+      sext_of 21
+      (field_of w 21 10 * 2 + field_of w 20 1 * 2 ^ 11 + field_of w 12 8 * 2 ^ 12
+      + field_of w 31 1 * 2 ^ 20);
 }
 fields_of (B _ _) op w = record {
   op = op;
   rd = 0;
   rs1 = field_of w 15 5;
   rs2 = field_of w 20 5;
-  imm = sext_of 13 (field_of w 8 4 * 2 + field_of w 25 6 * 2 ^ 5 + field_of w 7 1 * 2 ^ 11 + field_of w 31 1 * 2 ^ 12);
+  imm =
+      sext_of 13
+      (field_of w 8 4 * 2 + field_of w 25 6 * 2 ^ 5 + field_of w 7 1 * 2 ^ 11
+      + field_of w 31 1 * 2 ^ 12);
 }
 fields_of (I _ _) op w = record {
   op = op;

@@ -1,17 +1,23 @@
 //! The table of the 52 instructions: words to instructions and back, and their names.
 #![tactic(auto)]
 
-ghost use Rattle.std.specs.Prelude.{ℕ, ◌≡◌, ◌≢◌, ◌+◌, ◌*◌, ◌^◌, ◌<◌, IfSome, IfNone, Some};
-ghost use Rattle.hv_word.specs.Words.{field_of};
+ghost use Rattle.std.specs.Prelude.{◌≡◌, ◌≢◌, IfNone, IfSome};
 ghost use Rattle.hv_isa.specs.Names.{name_of};
-ghost use Rattle.hv_isa.specs.Table.{B, Csr, Fits, I, J, NamesRegs, One, Pair, R, Row, S, Shift, U, Whole, decode_of, fields_of, row_of, spell};
+ghost use Rattle.hv_isa.specs.Table.{Fits, NamesRegs, Row, decode_of, row_of, spell};
 ghost use Rattle.hv_isa.specs.declared.Instr.{Instr};
 ghost use Rattle.hv_isa.specs.declared.Op.{Op};
 
-use hv_word::{field, sext};
+mod formats;
+
+use formats::{
+    read_branch, read_control, read_immediate, read_jump, read_pair, read_registers, read_shift,
+    read_source, read_store, read_upper, read_whole, spell_branch, spell_control, spell_immediate,
+    spell_jump, spell_registers, spell_shift, spell_store, spell_upper,
+};
+use hv_word::field;
 
 /// The operation of an instruction: one for each row of the table.
-#[derive(Clone, Copy)]
+#[derive(Clone, Copy, Debug, PartialEq, Eq)]
 pub enum Op {
     Lui,
     Auipc,
@@ -67,11 +73,11 @@ pub enum Op {
     Vmenter,
 }
 
-/// An instruction. A field that its row lacks is zero.
-/// `imm` is the sign-extended immediate of formats I, S, B and J, the word's bits 31 to 12 in place
-/// for U, a shift amount, or the number of a CSR. The two fences keep rd, rs1 and the immediate.
-/// In the CSR rows with an immediate `rs1` is that number, 0 to 31.
-#[derive(Clone, Copy)]
+/// An instruction; a field that its row lacks is zero.
+/// `imm` is the sign-extended immediate of the formats I, S, B and J, the word's bits 31 to 12 in place
+/// for U, a shift amount, or the number of a CSR. The two fences keep all three fields of the format I.
+/// In csrrwi, csrrsi and csrrci `rs1` is no register but the number 0 to 31.
+#[derive(Clone, Copy, Debug, PartialEq, Eq)]
 pub struct Instr {
     pub op: Op,
     pub rd: u8,
@@ -80,8 +86,8 @@ pub struct Instr {
     pub imm: u32,
 }
 
-// The table, by opcode: each row's name, its format, and the fields that are fixed in it. The rows that
-// have their opcode to themselves come first.
+// The table, by opcode: each row's name, its format, and the fields besides the opcode that are fixed
+// in it. The rows that have nothing else fixed come first.
 macro_rules! rows {
     ($then:ident $($arg:tt)*) => {
         $then! { [$($arg)*]
@@ -174,19 +180,19 @@ macro_rules! fixed {
     (Whole $f7:literal $rs2:literal) => { (0, $f7, 0, 0, $rs2) };
 }
 
-// The other fields of a word, read in the row's format.
+// The instruction of a word that has the row's fixed fields.
 macro_rules! read {
-    ($op:ident $word:ident (U)) => { upper(Op::$op, $word) };
-    ($op:ident $word:ident (J)) => { jump(Op::$op, $word) };
-    ($op:ident $word:ident (B $($fixed:literal)*)) => { branch(Op::$op, $word) };
-    ($op:ident $word:ident (I $($fixed:literal)*)) => { immediate(Op::$op, $word) };
-    ($op:ident $word:ident (S $($fixed:literal)*)) => { store(Op::$op, $word) };
-    ($op:ident $word:ident (R $($fixed:literal)*)) => { registers(Op::$op, $word) };
-    ($op:ident $word:ident (Shift $($fixed:literal)*)) => { shift(Op::$op, $word) };
-    ($op:ident $word:ident (Csr $($fixed:literal)*)) => { control(Op::$op, $word) };
-    ($op:ident $word:ident (Pair $($fixed:literal)*)) => { pair(Op::$op, $word) };
-    ($op:ident $word:ident (One $($fixed:literal)*)) => { one(Op::$op, $word) };
-    ($op:ident $word:ident (Whole $($fixed:literal)*)) => { whole(Op::$op) };
+    ($op:ident $word:ident (U)) => { read_upper(Op::$op, $word) };
+    ($op:ident $word:ident (J)) => { read_jump(Op::$op, $word) };
+    ($op:ident $word:ident (B $($fixed:literal)*)) => { read_branch(Op::$op, $word) };
+    ($op:ident $word:ident (I $($fixed:literal)*)) => { read_immediate(Op::$op, $word) };
+    ($op:ident $word:ident (S $($fixed:literal)*)) => { read_store(Op::$op, $word) };
+    ($op:ident $word:ident (R $($fixed:literal)*)) => { read_registers(Op::$op, $word) };
+    ($op:ident $word:ident (Shift $($fixed:literal)*)) => { read_shift(Op::$op, $word) };
+    ($op:ident $word:ident (Csr $($fixed:literal)*)) => { read_control(Op::$op, $word) };
+    ($op:ident $word:ident (Pair $($fixed:literal)*)) => { read_pair(Op::$op, $word) };
+    ($op:ident $word:ident (One $($fixed:literal)*)) => { read_source(Op::$op, $word) };
+    ($op:ident $word:ident (Whole $($fixed:literal)*)) => { read_whole(Op::$op) };
 }
 
 macro_rules! decode_arms {
@@ -211,6 +217,7 @@ macro_rules! decode_arms {
     }};
 }
 
+// One `match` on the opcode and one inside it find the row, with no second look at the operation.
 #[tactic(auto, unfolding(crate::specs::Table::decode_of))]
 fn find_row(word: u32) -> Option<Instr>
     ensures { result ≡ decode_of word }
@@ -218,164 +225,7 @@ fn find_row(word: u32) -> Option<Instr>
     rows!(decode_arms word)
 }
 
-// The number of the register in a word's rd.
-fn rd(word: u32) -> u8
-    ensures { result ≡ field_of word 7 5 }
-{
-    field::<7, 5>(word) as u8
-}
-
-fn rs1(word: u32) -> u8
-    ensures { result ≡ field_of word 15 5 }
-{
-    field::<15, 5>(word) as u8
-}
-
-fn rs2(word: u32) -> u8
-    ensures { result ≡ field_of word 20 5 }
-{
-    field::<20, 5>(word) as u8
-}
-
-fn upper(op: Op, word: u32) -> Instr
-    ensures { result ≡ fields_of (U 0) op word }
-{
-    Instr {
-        op,
-        rd: rd(word),
-        rs1: 0,
-        rs2: 0,
-        imm: field::<12, 20>(word) << 12,
-    }
-}
-
-fn jump(op: Op, word: u32) -> Instr
-    ensures { result ≡ fields_of (J 0) op word }
-{
-    let low = (field::<21, 10>(word) << 1) + (field::<20, 1>(word) << 11);
-    let high = (field::<12, 8>(word) << 12) + (field::<31, 1>(word) << 20);
-    Instr {
-        op,
-        rd: rd(word),
-        rs1: 0,
-        rs2: 0,
-        imm: sext::<21>(low + high),
-    }
-}
-
-fn branch(op: Op, word: u32) -> Instr
-    ensures { result ≡ fields_of (B 0 0) op word }
-{
-    let low = (field::<8, 4>(word) << 1) + (field::<25, 6>(word) << 5);
-    let high = (field::<7, 1>(word) << 11) + (field::<31, 1>(word) << 12);
-    Instr {
-        op,
-        rd: 0,
-        rs1: rs1(word),
-        rs2: rs2(word),
-        imm: sext::<13>(low + high),
-    }
-}
-
-fn immediate(op: Op, word: u32) -> Instr
-    ensures { result ≡ fields_of (I 0 0) op word }
-{
-    let imm = sext::<12>(field::<20, 12>(word));
-    Instr {
-        op,
-        rd: rd(word),
-        rs1: rs1(word),
-        rs2: 0,
-        imm,
-    }
-}
-
-fn store(op: Op, word: u32) -> Instr
-    ensures { result ≡ fields_of (S 0 0) op word }
-{
-    let imm = sext::<12>(field::<7, 5>(word) + (field::<25, 7>(word) << 5));
-    Instr {
-        op,
-        rd: 0,
-        rs1: rs1(word),
-        rs2: rs2(word),
-        imm,
-    }
-}
-
-fn registers(op: Op, word: u32) -> Instr
-    ensures { result ≡ fields_of (R 0 0 0) op word }
-{
-    Instr {
-        op,
-        rd: rd(word),
-        rs1: rs1(word),
-        rs2: rs2(word),
-        imm: 0,
-    }
-}
-
-fn shift(op: Op, word: u32) -> Instr
-    ensures { result ≡ fields_of (Shift 0 0 0) op word }
-{
-    Instr {
-        op,
-        rd: rd(word),
-        rs1: rs1(word),
-        rs2: 0,
-        imm: field::<20, 5>(word),
-    }
-}
-
-fn control(op: Op, word: u32) -> Instr
-    ensures { result ≡ fields_of (Csr 0 0) op word }
-{
-    Instr {
-        op,
-        rd: rd(word),
-        rs1: rs1(word),
-        rs2: 0,
-        imm: field::<20, 12>(word),
-    }
-}
-
-fn pair(op: Op, word: u32) -> Instr
-    ensures { result ≡ fields_of (Pair 0 0 0) op word }
-{
-    Instr {
-        op,
-        rd: 0,
-        rs1: rs1(word),
-        rs2: rs2(word),
-        imm: 0,
-    }
-}
-
-fn one(op: Op, word: u32) -> Instr
-    ensures { result ≡ fields_of (One 0 0) op word }
-{
-    Instr {
-        op,
-        rd: 0,
-        rs1: rs1(word),
-        rs2: 0,
-        imm: 0,
-    }
-}
-
-fn whole(op: Op) -> Instr
-    ensures { result ≡ fields_of (Whole 0 0 0) op 0 }
-{
-    Instr {
-        op,
-        rd: 0,
-        rs1: 0,
-        rs2: 0,
-        imm: 0,
-    }
-}
-
-// The word of an instruction, spelled in its row's format.
+// The word of an instruction, from its row's opcode and format.
 macro_rules! spell {
     ($instr:ident $opcode:literal (U)) => { spell_upper($opcode, $instr) };
     ($instr:ident $opcode:literal (J)) => { spell_jump($opcode, $instr) };
@@ -427,83 +277,6 @@ macro_rules! by_name_arms {
     };
 }
 
-fn spell_upper(opcode: u32, instr: &Instr) -> u32
-    requires opcode { opcode < 128 }
-    requires fits { Fits (U opcode) instr.now }
-    ensures { result ≡ spell (U opcode) instr.now }
-{
-    opcode + (u32::from(instr.rd) << 7) + instr.imm
-}
-
-fn spell_jump(opcode: u32, instr: &Instr) -> u32
-    requires opcode { opcode < 128 }
-    requires fits { Fits (J opcode) instr.now }
-    ensures { result ≡ spell (J opcode) instr.now }
-{
-    let imm = instr.imm;
-    let low = (field::<12, 8>(imm) << 12) + (field::<11, 1>(imm) << 20);
-    let high = (field::<1, 10>(imm) << 21) + (field::<20, 1>(imm) << 31);
-    opcode + (u32::from(instr.rd) << 7) + low + high
-}
-
-fn spell_branch(opcode: u32, f3: u32, instr: &Instr) -> u32
-    requires fixed { (opcode < 128) × (f3 < 8) }
-    requires fits { Fits (B opcode f3) instr.now }
-    ensures { result ≡ spell (B opcode f3) instr.now }
-{
-    let imm = instr.imm;
-    let low = (field::<11, 1>(imm) << 7) + (field::<1, 4>(imm) << 8);
-    let high = (field::<5, 6>(imm) << 25) + (field::<12, 1>(imm) << 31);
-    let registers = (u32::from(instr.rs1) << 15) + (u32::from(instr.rs2) << 20);
-    opcode + low + (f3 << 12) + registers + high
-}
-
-fn spell_immediate(opcode: u32, f3: u32, instr: &Instr) -> u32
-    requires fixed { (opcode < 128) × (f3 < 8) }
-    requires fits { Fits (I opcode f3) instr.now }
-    ensures { result ≡ spell (I opcode f3) instr.now }
-{
-    let registers = (u32::from(instr.rd) << 7) + (u32::from(instr.rs1) << 15);
-    opcode + (f3 << 12) + registers + (field::<0, 12>(instr.imm) << 20)
-}
-
-fn spell_store(opcode: u32, f3: u32, instr: &Instr) -> u32
-    requires fixed { (opcode < 128) × (f3 < 8) }
-    requires fits { Fits (S opcode f3) instr.now }
-    ensures { result ≡ spell (S opcode f3) instr.now }
-{
-    let imm = instr.imm;
-    let registers = (u32::from(instr.rs1) << 15) + (u32::from(instr.rs2) << 20);
-    opcode + (field::<0, 5>(imm) << 7) + (f3 << 12) + registers + (field::<5, 7>(imm) << 25)
-}
-
-fn spell_registers(opcode: u32, f3: u32, f7: u32, instr: &Instr) -> u32
-    requires fixed { (opcode < 128) × (f3 < 8) × (f7 < 128) }
-    requires fits { (instr.now.rd < 32) × (instr.now.rs1 < 32) × (instr.now.rs2 < 32) }
-    ensures { result ≡ spell (R opcode f3 f7) instr.now }
-{
-    let registers = (u32::from(instr.rs1) << 15) + (u32::from(instr.rs2) << 20);
-    opcode + (u32::from(instr.rd) << 7) + (f3 << 12) + registers + (f7 << 25)
-}
-
-fn spell_shift(opcode: u32, f3: u32, f7: u32, instr: &Instr) -> u32
-    requires fixed { (opcode < 128) × (f3 < 8) × (f7 < 128) }
-    requires fits { Fits (Shift opcode f3 f7) instr.now }
-    ensures { result ≡ spell (Shift opcode f3 f7) instr.now }
-{
-    let registers = (u32::from(instr.rd) << 7) + (u32::from(instr.rs1) << 15);
-    opcode + (f3 << 12) + registers + (instr.imm << 20) + (f7 << 25)
-}
-
-fn spell_control(opcode: u32, f3: u32, instr: &Instr) -> u32
-    requires fixed { (opcode < 128) × (f3 < 8) }
-    requires fits { Fits (Csr opcode f3) instr.now }
-    ensures { result ≡ spell (Csr opcode f3) instr.now }
-{
-    let registers = (u32::from(instr.rd) << 7) + (u32::from(instr.rs1) << 15);
-    opcode + (f3 << 12) + registers + (instr.imm << 20)
-}
-
 fn spell_row(instr: &Instr) -> u32
     requires { Fits (row_of instr.now.op) instr.now }
     ensures { result ≡ spell (row_of instr.now.op) instr.now }
@@ -521,16 +294,16 @@ pub fn decode(word: u32) -> Option<Instr>
     find_row(word)
 }
 
-/// The word of an instruction whose fields are in its row's ranges. `decode` gives it back.
+/// The word of an instruction whose fields are in its row's ranges. `decode` gives the instruction back.
 pub fn encode(instr: &Instr) -> u32
     requires { Fits (row_of instr.now.op) instr.now }
-    ensures row { Row instr.now result }
+    ensures word { result ≡ spell (row_of instr.now.op) instr.now }
     ensures back { decode_of result ≡ Some instr.now }
 {
     spell_row(instr)
 }
 
-/// The assembly name of an operation.
+/// The name of an operation in assembly, as `addi` or `fence.i`.
 pub fn name(op: Op) -> &'static str
     ensures { result.now ≡ name_of op }
 {
@@ -550,4 +323,78 @@ pub fn by_name(text: &str) -> Option<Op>
     ensures only { (op : Op) → text.now ≡ name_of op → result ≡ Some op }
 {
     find_name(text)
+}
+
+#[cfg(test)]
+mod tests {
+    use super::*;
+
+    // An instruction from its operation, rd, rs1, rs2 and immediate.
+    fn instr(op: Op, rd: u8, rs1: u8, rs2: u8, imm: u32) -> Instr {
+        Instr {
+            op,
+            rd,
+            rs1,
+            rs2,
+            imm,
+        }
+    }
+
+    // Words as GNU as makes them, and the operands that it was given.
+    #[test]
+    fn reads_words(rt: HostRuntime) {
+        let rows = [
+            (0x000012b7, instr(Op::Lui, 5, 0, 0, 0x1000)),
+            (0xffdff06f, instr(Op::Jal, 0, 0, 0, 0xffff_fffc)),
+            (0x00028293, instr(Op::Addi, 5, 5, 0, 0)),
+            (0xfff00093, instr(Op::Addi, 1, 0, 0, 0xffff_ffff)),
+            (0xfe208ee3, instr(Op::Beq, 0, 1, 2, 0xffff_fffc)),
+            (0x04100123, instr(Op::Sb, 0, 0, 1, 66)),
+            (0x04205103, instr(Op::Lhu, 2, 0, 0, 66)),
+            (0x402081b3, instr(Op::Sub, 3, 1, 2, 0)),
+            (0x41f2d293, instr(Op::Srai, 5, 5, 0, 31)),
+            (0x0ff0000f, instr(Op::Fence, 0, 0, 0, 0xff)),
+            (0x30529073, instr(Op::Csrrw, 0, 5, 0, 0x305)),
+            (0x30200073, instr(Op::Mret, 0, 0, 0, 0)),
+            (0x12000073, instr(Op::SfenceVma, 0, 0, 0, 0)),
+            (0x0002800b, instr(Op::Vmenter, 0, 5, 0, 0)),
+        ];
+        for (word, want) in rows {
+            assert_eq!(rt; decode(word), Some(want), "at {word:x}");
+        }
+    }
+
+    // A shift by 34, an entry with rd 1, an unknown system word, and no instruction at all.
+    #[test]
+    fn refuses_words(rt: HostRuntime) {
+        for word in [
+            0x02029293,
+            0x0002808b,
+            0x00200073,
+            0x120000f3,
+            0,
+            0xffff_ffff,
+        ] {
+            assert_eq!(rt; decode(word), None, "at {word:x}");
+        }
+    }
+
+    #[test]
+    fn spells_a_branch(rt: HostRuntime) {
+        let back = Instr {
+            op: Op::Beq,
+            rd: 0,
+            rs1: 1,
+            rs2: 2,
+            imm: 0xffff_fffc,
+        };
+        assert_eq!(rt; encode(&back), 0xfe208ee3);
+    }
+
+    #[test]
+    fn names_rows(rt: HostRuntime) {
+        assert_eq!(rt; name(Op::FenceI), "fence.i");
+        assert_eq!(rt; by_name("sfence.vma"), Some(Op::SfenceVma));
+        assert_eq!(rt; by_name("ADDI"), None);
+    }
 }

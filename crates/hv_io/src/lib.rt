@@ -10,6 +10,7 @@ mod memory;
 mod standard;
 mod whole;
 
+pub use memory::{HonestSource, MemSink, MemSource};
 pub use standard::{StdSink, StdSource};
 pub use whole::{ReadEnd, WriteFault, read_all, write_all};
 

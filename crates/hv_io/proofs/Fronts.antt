@@ -1,11 +1,11 @@
 -- Fronts of lists, and what reading and writing in turns come to.
-use Rattle.std.proofs.Common.{◌≡◌, ℕ, ◌+◌, ◌-◌, ◌≤◌, List, ◌++◌, length, take, drop, Option, Result, Ok, Err, sym, ap, ◌∙◌, subst, arith}
+use Rattle.std.proofs.Common.{◌≡◌, ℕ, ◌+◌, ◌-◌, ◌≤◌, List, ◌++◌, length, take, drop, Option, Result, Ok, Err, sym, ap, ◌∙◌, subst, length-append, arith}
 use Rattle.std.proofs.lemmas.List.{take-append-drop, drop-take, take_rest}
-use Rattle.std.specs.Io.KnownBytes.{Appends}
+use Rattle.std.specs.Io.KnownBytes.{Appends, Consumes}
 use Rattle.std.specs.Result.{IsErrAnd}
-use Rattle.std.proofs.KnownBytes.{Appends-trans}
+use Rattle.std.proofs.KnownBytes.{Appends-trans, Consumes-trans}
 use Rattle.std.proofs.lemmas.Grind.{common_steps}
-use Rattle.hv_io.specs.Whole.{IsCountAt}
+use Rattle.hv_io.specs.Whole.{IsCountAt, Gives}
 use Rattle.hv_io.specs.declared.TheConstants.{INPUT_LIMIT}
 use Rattle.hv_io.specs.declared.whole.ReadEnd.{ReadEnd}
 use Rattle.hv_io.specs.declared.whole.ReadEnd.TheVariants.{Memory}
@@ -30,3 +30,7 @@ Appends-more a b c xs done more before now =
 pub IsCountAt-memory : {T : Type 0} (r : Result T ReadEnd) (count : ℕ) → IsErrAnd r (λ e. e ≡ Memory) → count ≤ INPUT_LIMIT → IsCountAt r count
 IsCountAt-memory (Ok x) count h le = absurd h
 IsCountAt-memory {T} (Err e) count h le = let P : ReadEnd → Type 0 = λ end. IsCountAt {T = T} (Err end) count in subst P (sym h) le
+
+-- what a source gave in two turns, and how many bytes that is
+pub Gives-more : (a b c : Option (List ℕ)) (before now : List ℕ) (IsSuch : ℕ → Type 0) → Consumes a b before → Consumes b c now → IsSuch (length before + length now) → Gives a c IsSuch
+Gives-more a b c before now IsSuch first second such = (before ++ now, Consumes-trans a b c before now first second, subst IsSuch (sym (length-append before now)) such)

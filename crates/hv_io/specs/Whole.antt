@@ -23,6 +23,10 @@ IsCountAt (Err Memory) count = count ≤ INPUT_LIMIT
 abbrev pub Gives : Option (List ℕ) → Option (List ℕ) → (ℕ → Type 0) → Type 0
 Gives old new IsSuch = (bytes : List ℕ) × Consumes old new bytes × IsSuch (length bytes)
 
+-- the source gave no more bytes than this
+abbrev pub TakesAtMost : ℕ → Option (List ℕ) → Option (List ℕ) → Type 0
+TakesAtMost most old new = Gives old new (λ count. count ≤ most)
+
 -- the bytes held grew by the front of the piece, and not by all of it
 abbrev pub AppendsFront : Option (List ℕ) → Option (List ℕ) → List ℕ → Type 0
 AppendsFront old new piece = (count : ℕ) × (count < length piece) × Appends old new (take count piece)

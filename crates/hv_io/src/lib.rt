@@ -67,3 +67,6 @@ pub trait Sink {
         ensures counted { faults self.new < 2 ^ 64 }
         ensures same { made self.new ≡ made self.old };
 }
+
+#[cfg(test)]
+mod tests;

@@ -68,7 +68,12 @@ impl Model for MemSource {
     ghost Value = { SourceState };
 
     ghost view = { λ s. record {
-        left = s.source; chunk = s.chunk; fails = s.fails.items; calls = s.calls; faults = s.faults } };
+      left = s.source;
+      chunk = s.chunk;
+      fails = s.fails.items;
+      calls = s.calls;
+      faults = s.faults;
+    } };
 
     ghost invariant = { λ s. (0 < s.chunk) × (s.faults < 2 ^ 64) };
 }
@@ -79,7 +84,12 @@ impl MemSource {
     pub fn new(bytes: Vec<u8>, chunk: usize, fails: Vec<u32>) -> MemSource
         requires { 0 < chunk }
         ensures { result ≡ record {
-            left = bytes.items; chunk = chunk; fails = fails.items; calls = 0; faults = 0 } }
+          left = bytes.items;
+          chunk = chunk;
+          fails = fails.items;
+          calls = 0;
+          faults = 0;
+        } }
     {
         MemSource {
             source: HonestSource::new(bytes),
@@ -139,8 +149,13 @@ impl Model for MemSink {
     ghost Value = { SinkState };
 
     ghost view = { λ s. record {
-        held = s.bytes.items; room = s.room; chunk = s.chunk; fails = s.fails.items;
-        calls = s.calls; faults = s.faults } };
+      held = s.bytes.items;
+      room = s.room;
+      chunk = s.chunk;
+      fails = s.fails.items;
+      calls = s.calls;
+      faults = s.faults;
+    } };
 
     ghost use Rattle.hv_io.specs.Sink.{IsSound};
 
@@ -151,10 +166,21 @@ impl MemSink {
     /// An empty sink with room for so many bytes, which takes at most `chunk` in a call. The calls
     /// with a number in `fails`, counted from 0, fail, and so does a call with a piece that isn't
     /// empty when no room is left.
-    pub fn new(alloc: Global, room: usize, chunk: usize, fails: Vec<u32>) -> Result<MemSink, AllocError>
+    pub fn new(
+        alloc: Global,
+        room: usize,
+        chunk: usize,
+        fails: Vec<u32>,
+    ) -> Result<MemSink, AllocError>
         requires { 0 < chunk }
         ensures { IfOk result (λ sink. sink ≡ record {
-            held = []; room = room; chunk = chunk; fails = fails.items; calls = 0; faults = 0 }) }
+          held = [];
+          room = room;
+          chunk = chunk;
+          fails = fails.items;
+          calls = 0;
+          faults = 0;
+        }) }
     {
         let bytes = Vec::with_capacity(alloc, room)?;
         Ok(MemSink {

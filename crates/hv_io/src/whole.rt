@@ -1,9 +1,9 @@
 //! Reading a source to its end, and writing a piece whole.
 
-ghost use Rattle.std.specs.Prelude.{◌≡◌, ◌<◌, ◌≤◌, length, IfOk, OnOk, IfErr, OnErr, IfSome};
+ghost use Rattle.std.specs.Prelude.{◌≡◌, ◌+◌, ◌<◌, ◌≤◌, length, IfOk, OnOk, IfErr, OnErr, IfSome};
 ghost use Rattle.std.specs.Io.KnownBytes.{Appends, Consumes, IsAtEnd};
 ghost use Rattle.hv_io.specs.Faults.{Rose, HasCause};
-ghost use Rattle.hv_io.specs.Whole.{IsDue, IsCountAt, Gives, AppendsFront, LacksRoom};
+ghost use Rattle.hv_io.specs.Whole.{IsDue, IsCountAt, Gives, TakesAtMost, AppendsFront, LacksRoom};
 ghost use Rattle.hv_io.specs.declared.whole.ReadEnd.TheVariants.{ReadFault, Memory};
 
 use super::{Failed, INPUT_LIMIT, Sink, Source};
@@ -60,6 +60,7 @@ pub fn read_all<S: Source>(alloc: Global, source: &mut S) -> Result<Vec<u8>, Rea
     ensures due { IfErr result (λ end. IsDue end (Rose (S.faults source.old) (S.faults source.new))
         (IfSome (S.left source.old) (λ left. INPUT_LIMIT < length left))) }
     ensures given { Gives (S.left source.old) (S.left source.new) (IsCountAt result) }
+    ensures taken { TakesAtMost (INPUT_LIMIT + 1) (S.left source.old) (S.left source.new) }
     ensures counts { S.faults source.old ≤ S.faults source.new }
     ensures same { S.made source.new ≡ S.made source.old }
 {

@@ -1,5 +1,5 @@
 -- What is true of the fields of every sink in memory.
-use Rattle.std.specs.Prelude.{◌≡◌, ℕ, ◌^◌, ◌<◌, ◌≤◌, List, [], length, vec_capacity}
+use Rattle.std.specs.Prelude.{◌≡◌, ◌^◌, ◌<◌, ◌≤◌, [], length, vec_capacity}
 use Rattle.hv_io.specs.declared.memory.MemSink.TheInside.{Inside}
 
 pub record IsSound (s : Inside) : Type 0 where

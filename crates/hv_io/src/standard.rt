@@ -7,19 +7,28 @@ ghost use Rattle.hv_io.specs.Faults.{Making, HasCause, IsFull, CountsFailure};
 
 use super::{Failed, Sink, Source};
 use std::io::{Read, Write};
+use std::marker::Model;
 
-/// A source over a reader. Each error of the reader is a fault.
+/// A source over a reader. Each error of the reader is a fault, and clauses see it as the count
+/// of its faults.
 #[derive(Drop)]
 pub struct StdSource<R> {
     inner: R,
     faults: u64,
-    ghost fits: { faults < 2 ^ 64 },
+}
+
+impl<R> Model for StdSource<R> {
+    ghost Value = { ℕ };
+
+    ghost view = { λ s. s.faults };
+
+    ghost invariant = { λ s. s.faults < 2 ^ 64 };
 }
 
 impl<R: Read> StdSource<R> {
     /// The source over this reader, with no fault yet.
     pub fn new(inner: R) -> StdSource<R>
-        ensures { result.faults ≡ 0 }
+        ensures { result ≡ 0 }
     {
         StdSource { inner, faults: 0 }
     }
@@ -28,14 +37,15 @@ impl<R: Read> StdSource<R> {
 impl<R: Read> Source for StdSource<R> {
     ghost left = { λ _. None };
 
-    ghost faults = { λ source. source.faults };
+    ghost faults = { λ source. source };
 
     ghost made = { λ _. None };
 
     fn take(&mut self, buf: &mut [u8]) -> Result<usize, Failed>
         ensures bound { ReadsAtMost result buf.new }
-        ensures counts { CountsFailure self.old.faults self.new.faults result }
-        ensures counted { self.new.faults < 2 ^ 64 }
+        ensures cause { HasCause self.old self.new result }
+        ensures counts { CountsFailure self.old self.new result }
+        ensures counted { self.new < 2 ^ 64 }
     {
         match self.inner.read(buf) {
             Ok(count) => Ok(count),
@@ -48,18 +58,25 @@ impl<R: Read> Source for StdSource<R> {
 }
 
 /// A sink over a writer. Each error of the writer is a fault, and so is a write of nothing of a
-/// piece that isn't empty.
+/// piece that isn't empty. Clauses see it as the count of its faults.
 #[derive(Drop)]
 pub struct StdSink<W> {
     inner: W,
     faults: u64,
-    ghost fits: { faults < 2 ^ 64 },
+}
+
+impl<W> Model for StdSink<W> {
+    ghost Value = { ℕ };
+
+    ghost view = { λ s. s.faults };
+
+    ghost invariant = { λ s. s.faults < 2 ^ 64 };
 }
 
 impl<W: Write> StdSink<W> {
     /// The sink over this writer, with no fault yet.
     pub fn new(inner: W) -> StdSink<W>
-        ensures { result.faults ≡ 0 }
+        ensures { result ≡ 0 }
     {
         StdSink { inner, faults: 0 }
     }
@@ -68,15 +85,16 @@ impl<W: Write> StdSink<W> {
 impl<W: Write> Sink for StdSink<W> {
     ghost held = { λ _. None };
 
-    ghost faults = { λ sink. sink.faults };
+    ghost faults = { λ sink. sink };
 
     ghost made = { λ _. None };
 
     fn give(&mut self, piece: &[u8]) -> Result<usize, Failed>
         ensures bound { WritesAtMost result piece.now }
         ensures some { IfOk result (λ count. 0 < length piece.now → 0 < count) }
-        ensures counts { CountsFailure self.old.faults self.new.faults result }
-        ensures counted { self.new.faults < 2 ^ 64 }
+        ensures cause { HasCause self.old self.new result }
+        ensures counts { CountsFailure self.old self.new result }
+        ensures counted { self.new < 2 ^ 64 }
     {
         match self.inner.write(piece) {
             Ok(count) if count > 0 || piece.is_empty() => Ok(count),

@@ -4,9 +4,9 @@ use super::*;
 use std::alloc::{AllocError, Global};
 use std::test::Fail;
 
-/// One byte more than an input may have.
-fn one_too_many() -> usize {
-    INPUT_LIMIT as usize + 1
+/// So many bytes more than an input may have.
+fn past_limit(more: u8) -> usize {
+    INPUT_LIMIT as usize + usize::from(more)
 }
 
 /// The calls to fail at.
@@ -49,10 +49,10 @@ fn a_source_that_fails_in_mid_stream_is_a_read_fault(rt: HostRuntime) -> Result<
 
 #[test]
 fn one_byte_past_the_limit_is_too_long(rt: HostRuntime) -> Result<(), Fail> {
-    let long = vec![in rt.alloc(); 10u8; one_too_many()]?;
+    let long = vec![in rt.alloc(); 10u8; past_limit(1)]?;
     let end = read_all(rt.alloc(), &mut HonestSource::new(long)).err();
     assert_eq!(rt; end, Some(ReadEnd::TooLong { limit: 1_048_576 }));
-    let most = vec![in rt.alloc(); 10u8; one_too_many() - 1]?;
+    let most = vec![in rt.alloc(); 10u8; past_limit(0)]?;
     let read = read_all(rt.alloc(), &mut HonestSource::new(most)).ok();
     assert_eq!(rt; read.ok_or("no bytes")?.len(), 1_048_576);
     Ok(())

@@ -337,3 +337,58 @@ impl Cpu {
         ]
     }
 }
+
+#[cfg(test)]
+mod tests {
+    use super::*;
+    use bitflags::Flags;
+
+    #[test]
+    fn registers_are_written_and_read(rt: HostRuntime) {
+        let mut cpu = Cpu::reset();
+        cpu.set_x(0, 7);
+        cpu.set_x(1, 8);
+        cpu.set_x(31, 9);
+        assert_eq!(rt; cpu.x(0), 0);
+        assert_eq!(rt; cpu.x(1), 8);
+        assert_eq!(rt; cpu.x(31), 9);
+        assert_eq!(rt; cpu.x31, 9);
+    }
+
+    #[test]
+    fn a_reset_hart_is_in_machine_mode(rt: HostRuntime) {
+        let words = Cpu::reset().words();
+        for (place, word) in words.iter().enumerate() {
+            assert_eq!(rt; *word, if place == 32 { 3 } else { 0 }, "at {place}");
+        }
+    }
+
+    #[test]
+    fn next_is_none_or_below_the_pages(rt: HostRuntime) {
+        let mut cpu = Cpu::reset();
+        assert!(rt; cpu.well_formed(0));
+        cpu.next = Some(2);
+        assert!(rt; cpu.well_formed(3));
+        assert!(rt; !cpu.well_formed(2));
+        assert_eq!(rt; cpu.words()[49], 2);
+    }
+
+    #[test]
+    fn modes_have_their_words(rt: HostRuntime) {
+        assert_eq!(rt; Mode::from_word(1), Some(Mode::S));
+        assert_eq!(rt; Mode::from_word(2), None);
+        assert_eq!(rt; Mode::M.word(), 3);
+    }
+
+    #[test]
+    fn lines_leave_the_interrupts_of_s(rt: HostRuntime) {
+        let mut cpu = Cpu::reset();
+        cpu.mip = 0x222;
+        cpu.set_lines(0x880);
+        assert_eq!(rt; cpu.mip, 0xAA2);
+        assert!(rt; Interrupts::from_bits_retain(cpu.mip).contains(Interrupts::MTI));
+        cpu.set_lines(0x008);
+        assert_eq!(rt; cpu.mip, 0x22A);
+        assert!(rt; !Interrupts::from_bits_retain(cpu.mip).contains(Interrupts::MTI));
+    }
+}

@@ -5,6 +5,8 @@ mod access;
 mod csr;
 mod interrupts;
 mod status;
+#[cfg(test)]
+mod tests;
 mod traps;
 
 pub use access::{Illegal, csr_read, csr_write};

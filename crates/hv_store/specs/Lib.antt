@@ -1,0 +1,3 @@
+pub mod Access
+pub mod Frame
+pub mod Zeros

@@ -97,3 +97,58 @@ fn with_bits(word: u32, low: u32, count: u32, value: u32) -> u32
     let ones = low_ones(count);
     (word & !(ones << low)) | ((value & ones) << low)
 }
+
+#[cfg(test)]
+mod tests {
+    use super::*;
+
+    // `lui x2, 1` and `sw x3, -4(x2)`
+    const LUI: u32 = 0x0000_1137;
+
+    const STORE: u32 = 0xFE31_2E23;
+
+    #[test]
+    fn takes_an_instruction_word_apart(rt: HostRuntime) {
+        assert_eq!(rt; field::<0, 7>(LUI), 0x37);
+        assert_eq!(rt; field::<7, 5>(LUI), 2);
+        assert_eq!(rt; field::<12, 20>(LUI), 1);
+        assert_eq!(rt; field::<0, 32>(STORE), STORE);
+        let offset = field_set::<5, 7>(field::<7, 5>(STORE), field::<25, 7>(STORE));
+        assert_eq!(rt; offset, 0xFFC);
+        assert_eq!(rt; sext::<12>(offset), 0xFFFF_FFFC);
+    }
+
+    #[test]
+    fn extends_the_sign(rt: HostRuntime) {
+        for (value, want) in [
+            (0x7F, 0x7F),
+            (0x80, 0xFFFF_FF80),
+            (0x1FF, u32::MAX),
+            (0x100, 0),
+        ] {
+            assert_eq!(rt; sext::<8>(value), want, "at {value}");
+        }
+        assert_eq!(rt; sext::<1>(3), u32::MAX);
+        assert_eq!(rt; sext::<32>(0x8000_0000), 0x8000_0000);
+    }
+
+    #[test]
+    fn replaces_a_field(rt: HostRuntime) {
+        assert_eq!(rt; field_set::<11, 2>(0xFFFF_FFFF, 4), 0xFFFF_E7FF);
+        assert_eq!(rt; field_set::<11, 2>(0, 3), 0x1800);
+        assert_eq!(rt; field_set::<0, 32>(1, 2), 2);
+    }
+
+    #[test]
+    fn lanes_are_little_endian(rt: HostRuntime) {
+        for (index, want) in [(0, 0x37), (1, 0x11), (2, 0), (3, 0)] {
+            assert_eq!(rt; lane_get(LUI, Lane::Byte(index)), want, "byte {index}");
+        }
+        assert_eq!(rt; lane_get(STORE, Lane::Half(0)), 0x2E23);
+        assert_eq!(rt; lane_get(STORE, Lane::Half(1)), 0xFE31);
+        assert_eq!(rt; lane_get(STORE, Lane::Word), STORE);
+        assert_eq!(rt; lane_put(STORE, Lane::Byte(3), 0x1234), 0x3431_2E23);
+        assert_eq!(rt; lane_put(STORE, Lane::Half(0), 0x1_0001), 0xFE31_0001);
+        assert_eq!(rt; lane_put(STORE, Lane::Word, 7), 7);
+    }
+}

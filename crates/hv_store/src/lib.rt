@@ -3,8 +3,10 @@
 
 mod access;
 mod space;
+mod steps;
 mod store;
 
 pub use access::{Access, Refusal, Slot, Way};
 pub use space::Space;
+pub use steps::Steps;
 pub use store::Store;

@@ -88,6 +88,6 @@ composed S F j n t v = map (composed_slot S F j t v) (range_with_len 0 n)
 
 -- P holds of the words that the map of such a child is read from, each a bare page and a word in it: the table words of
 -- its pages, and in version 2 the directory words that name their tables, as far as F lets the parent read them.
-pub record EachTableWord (P : ℕ → ℕ → Type 0) (S : List ℕ) (F : List Slot) (n t v : ℕ) : Type 0 where
+pub record EachTableWord (P : ℕ → ℕ → Type 0) (S : List ℕ) (F : List Slot) (j n t v : ℕ) : Type 0 where
   pub directory : (i g : ℕ) → i < n → v ≡ 2 → reading F t ≡ Some (Open g) → P g (i / 1024)
-  pub table : (i u g : ℕ) → i < n → table_of S (reading F) 0 t v i ≡ Named u → reading F u ≡ Some (Open g) → P g (i % 1024)
+  pub table : (i u g : ℕ) → i < n → table_of S (reading F) j t v i ≡ Named u → reading F u ≡ Some (Open g) → P g (i % 1024)

@@ -1,2 +1,3 @@
 pub mod Agree
+pub mod Handed
 pub mod Slots

@@ -58,3 +58,19 @@ Agree F S T =
     → s.read ≡ Open x
     → w < 1024
     → word_at S x w ≡ word_at T y w
+
+-- F opens bare page x for the access a
+abbrev pub Opens : List Slot → Access → ℕ → Type 0
+Opens F a x = (y : ℕ) × (s : Slot) × (slice_get F y ≡ Some s) × (way_for s a ≡ Open x)
+
+-- some way of F is shut at level l
+abbrev pub ShutAt : List Slot → ℕ → Type 0
+ShutAt F l =
+    (y : ℕ)
+    × (s : Slot)
+    × (a : Access)
+    × (c : ℕ)
+    × (p : ℕ)
+    × (w : Option ℕ)
+    × (slice_get F y ≡ Some s)
+    × (way_for s a ≡ Shut l c p w)

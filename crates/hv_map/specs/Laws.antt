@@ -1,8 +1,12 @@
 -- The laws of composed maps, as statements.
-use Rattle.std.specs.Prelude.{◌≡◌, ℕ, List, length}
+use Rattle.std.specs.Prelude.{◌≡◌, ℕ, ◌⊎◌, List, length, Option, Some, slice_get}
 use Rattle.hv_word.specs.Storage.{word_at}
 use Rattle.hv_store.specs.declared.access.Slot.{Slot}
+use Rattle.hv_store.specs.declared.access.Access.{Access}
+use Rattle.hv_store.specs.declared.access.Way.TheVariants.{Open, Shut}
+use Rattle.hv_store.specs.Access.{way_for}
 use Rattle.hv_map.specs.Compose.{composed, EachTableWord}
+use Rattle.hv_map.specs.Carried.{Opens, OpensSame, ShutAt}
 
 -- a child's map has as many slots as the child has pages
 abbrev pub SizeLaw : Type 0
@@ -14,3 +18,23 @@ TableLaw =
     (S A : List ℕ) (F : List Slot) (j n t v : ℕ)
     → EachTableWord (λ g w. word_at S g w ≡ word_at A g w) S F j n t v
     → composed S F j n t v ≡ composed A F j n t v
+
+-- it opens no page, for any access, but those that the parent's map opens for that access
+abbrev pub OpensLaw : Type 0
+OpensLaw =
+    (S : List ℕ) (F : List Slot) (j n t v i : ℕ) (s : Slot) (a : Access) (x : ℕ)
+    → slice_get (composed S F j n t v) i ≡ Some s
+    → way_for s a ≡ Open x
+    → Opens F a x
+
+-- where the parent's open ways for writing and fetching are its open ways for reading of the same pages, so are the child's
+abbrev pub SameLaw : Type 0
+SameLaw = (S : List ℕ) (F : List Slot) (j n t v : ℕ) → OpensSame F → OpensSame (composed S F j n t v)
+
+-- a way that is shut in it is shut at the parent's level, or at the level of a way that is shut in the parent's map
+abbrev pub LevelLaw : Type 0
+LevelLaw =
+    (S : List ℕ) (F : List Slot) (j n t v i : ℕ) (s : Slot) (a : Access) (l c p : ℕ) (w : Option ℕ)
+    → slice_get (composed S F j n t v) i ≡ Some s
+    → way_for s a ≡ Shut l c p w
+    → (l ≡ j) ⊎ ShutAt F l

@@ -1,6 +1,6 @@
 //! What always holds of composed maps. Each function here is empty: it states one law, which is proved.
 
-ghost use Rattle.hv_map.specs.Laws.{SizeLaw, TableLaw};
+ghost use Rattle.hv_map.specs.Laws.{SizeLaw, TableLaw, OpensLaw, SameLaw, LevelLaw};
 
 /// A child's map has a slot for each of its pages, and no other.
 pub fn map_has_each_page()
@@ -12,5 +12,25 @@ pub fn map_has_each_page()
 /// same for two storages that agree on them.
 pub fn map_depends_on_table_words()
     ensures { TableLaw }
+{
+}
+
+/// A child's map opens no page, for any access, but those that its parent's map opens for that access.
+pub fn map_opens_only_parents_pages()
+    ensures { OpensLaw }
+{
+}
+
+/// Where the open ways of the parent's map for writing and fetching are its open ways for reading of the same pages, so
+/// are those of the child's.
+pub fn map_opens_same_page()
+    ensures { SameLaw }
+{
+}
+
+/// A way that is shut in a child's map is shut at its parent's level, or at the level of a way that is shut in the
+/// parent's map.
+pub fn map_is_shut_at_known_levels()
+    ensures { LevelLaw }
 {
 }

@@ -1,3 +1,4 @@
 pub mod Agree
 pub mod Handed
+pub mod Like
 pub mod Slots

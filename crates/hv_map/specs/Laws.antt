@@ -1,12 +1,12 @@
 -- The laws of composed maps, as statements.
-use Rattle.std.specs.Prelude.{◌≡◌, ℕ, ◌⊎◌, List, length, Option, Some, slice_get}
+use Rattle.std.specs.Prelude.{◌≡◌, ℕ, ◌+◌, ◌^◌, ◌≤◌, ◌⊎◌, List, length, Option, Some, slice_get}
 use Rattle.hv_word.specs.Storage.{word_at}
 use Rattle.hv_store.specs.declared.access.Slot.{Slot}
 use Rattle.hv_store.specs.declared.access.Access.{Access}
 use Rattle.hv_store.specs.declared.access.Way.TheVariants.{Open, Shut}
 use Rattle.hv_store.specs.Access.{way_for}
 use Rattle.hv_map.specs.Compose.{composed, EachTableWord}
-use Rattle.hv_map.specs.Carried.{Opens, OpensSame, ShutAt}
+use Rattle.hv_map.specs.Carried.{Agree, MapLike, Opens, OpensSame, ShutAt, ShutBelow}
 
 -- a child's map has as many slots as the child has pages
 abbrev pub SizeLaw : Type 0
@@ -38,3 +38,15 @@ LevelLaw =
     → slice_get (composed S F j n t v) i ≡ Some s
     → way_for s a ≡ Shut l c p w
     → (l ≡ j) ⊎ ShutAt F l
+
+-- Let F be the map of a machine at level k in S, and T agree with S through F. Where H is a map of S and G one of T, of
+-- machines at the levels j + k and j, and each way of H is shut below k or is the way of G carried through F, the maps of
+-- their children with the same pages, table and version are so too. (A well-formed block has at most 2 ^ 20 pages.)
+abbrev pub CarryLaw : Type 0
+CarryLaw =
+    (k : ℕ) (F : List Slot) (S T : List ℕ) (H G : List Slot) (j n t v : ℕ)
+    → n ≤ 2 ^ 20
+    → ShutBelow k F
+    → Agree F S T
+    → MapLike k F H G
+    → MapLike k F (composed S H (j + k) n t v) (composed T G j n t v)

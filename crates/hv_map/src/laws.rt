@@ -1,6 +1,6 @@
 //! What always holds of composed maps. Each function here is empty: it states one law, which is proved.
 
-ghost use Rattle.hv_map.specs.Laws.{SizeLaw, TableLaw, OpensLaw, SameLaw, LevelLaw};
+ghost use Rattle.hv_map.specs.Laws.{SizeLaw, TableLaw, OpensLaw, SameLaw, LevelLaw, CarryLaw};
 
 /// A child's map has a slot for each of its pages, and no other.
 pub fn map_has_each_page()
@@ -32,5 +32,12 @@ pub fn map_opens_same_page()
 /// parent's map.
 pub fn map_is_shut_at_known_levels()
     ensures { LevelLaw }
+{
+}
+
+/// Composing and carrying change places: where a storage agrees with what a machine sees of it, the map of a child in the
+/// one, carried through that machine's map, is the map of the child in the other, but for ways that are refused further out.
+pub fn map_is_carried()
+    ensures { CarryLaw }
 {
 }

@@ -6,6 +6,8 @@ use Rattle.hv_store.specs.declared.access.Access.{Access}
 use Rattle.hv_store.specs.declared.access.Way.TheVariants.{Open, Shut}
 use Rattle.hv_store.specs.Access.{way_for}
 use Rattle.hv_map.specs.Compose.{composed, EachTableWord}
+use Rattle.hv_map.specs.Chain.{map_of}
+use Rattle.hv_map.specs.Trail.{trail_of}
 use Rattle.hv_map.specs.Carried.{Agree, MapLike, Opens, OpensSame, ShutAt, ShutBelow}
 
 -- a child's map has as many slots as the child has pages
@@ -50,3 +52,11 @@ CarryLaw =
     → Agree F S T
     → MapLike k F H G
     → MapLike k F (composed S H (j + k) n t v) (composed T G j n t v)
+
+-- for every path with a map, the way of each of its pages, for each access, is the one that is found from the inside out
+abbrev pub TrailLaw : Type 0
+TrailLaw =
+    (S path : List ℕ) (F : List Slot) (i : ℕ) (s : Slot) (a : Access)
+    → map_of S path ≡ Some F
+    → slice_get F i ≡ Some s
+    → trail_of S path i a ≡ Some (way_for s a)

@@ -1,6 +1,6 @@
 //! What always holds of composed maps. Each function here is empty: it states one law, which is proved.
 
-ghost use Rattle.hv_map.specs.Laws.{SizeLaw, TableLaw, OpensLaw, SameLaw, LevelLaw, CarryLaw};
+ghost use Rattle.hv_map.specs.Laws.{SizeLaw, TableLaw, OpensLaw, SameLaw, LevelLaw, CarryLaw, TrailLaw};
 
 /// A child's map has a slot for each of its pages, and no other.
 pub fn map_has_each_page()
@@ -39,5 +39,12 @@ pub fn map_is_shut_at_known_levels()
 /// one, carried through that machine's map, is the map of the child in the other, but for ways that are refused further out.
 pub fn map_is_carried()
     ensures { CarryLaw }
+{
+}
+
+/// For every path with a map, the way of each page of the machine, for each access, is the one that is found from the
+/// inside out.
+pub fn trail_is_map()
+    ensures { TrailLaw }
 {
 }

@@ -5,5 +5,4 @@ ghost use Rattle.hv_block.specs.Laws.{PageLaw};
 /// A block depends on the words of its page alone: two pages with the same words hold the same block, or both none.
 pub fn block_depends_on_its_page()
     ensures { PageLaw }
-{
-}
+{}

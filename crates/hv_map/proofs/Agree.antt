@@ -1,5 +1,5 @@
 -- A composed map depends on the words of its table alone.
-use Rattle.std.proofs.Common.{◌≡◌, ℕ, zero, suc, ◌+◌, ◌/◌, ◌%◌, ◌<◌, ◌≤◌, Bool, true, false, cond, ◌==◌, List, [], ◌∷◌, map, Option, Some, None, refl, ap, ◌∙◌, arith}
+use Rattle.std.proofs.Common.{◌≡◌, ℕ, zero, suc, ◌+◌, ◌/◌, ◌%◌, ◌<◌, ◌≤◌, Bool, true, false, cond, ◌==◌, List, ◌∷◌, map, Option, Some, None, refl, ap, ◌∙◌, arith}
 use Rattle.std.specs.List.{range_with_len}
 use Rattle.std.proofs.lemmas.Bool.{eqb-true}
 use Rattle.hv_word.specs.Storage.{word_at}
@@ -31,9 +31,9 @@ word_agrees S A reads j i (Named u) h = look_agrees S A j i (i % 1024) (reads u)
 word_agrees S A reads j i (Stopped way) h = refl
 
 pub entry_agrees : (S A : List ℕ) (reads : ℕ → Option Way) (j t v i : ℕ)
-  → ((g : ℕ) → v ≡ 2 → reads t ≡ Some (Open g) → word_at S g (i / 1024) ≡ word_at A g (i / 1024))
-  → ((u g : ℕ) → table_of S reads j t v i ≡ Named u → reads u ≡ Some (Open g) → word_at S g (i % 1024) ≡ word_at A g (i % 1024))
-  → entry_of S reads j t v i ≡ entry_of A reads j t v i
+    → ((g : ℕ) → v ≡ 2 → reads t ≡ Some (Open g) → word_at S g (i / 1024) ≡ word_at A g (i / 1024))
+    → ((u g : ℕ) → table_of S reads j t v i ≡ Named u → reads u ≡ Some (Open g) → word_at S g (i % 1024) ≡ word_at A g (i % 1024))
+    → entry_of S reads j t v i ≡ entry_of A reads j t v i
 entry_agrees S A reads j t v i d h =
     word_agrees S A reads j i (table_of S reads j t v i) h
     ∙ ap (word_in A reads j i) (table_agrees S A reads j t v i d)
@@ -42,5 +42,5 @@ pub composed_agrees : (S A : List ℕ) (F : List Slot) (j n t v : ℕ) → EachT
 unfolding composed composed_slot
 composed_agrees S A F j n t v each =
     map_range_alike (composed_slot S F j t v) (composed_slot A F j t v) 0 n (λ i low high.
-        let h : i < n = omega arith in
-        ap (slot_of F j v i) (entry_agrees S A (reading F) j t v i (λ g e p. each.directory i g h e p) (λ u g e p. each.table i u g h e p)))
+    let h : i < n = omega arith in
+    ap (slot_of F j v i) (entry_agrees S A (reading F) j t v i (λ g e p. each.directory i g h e p) (λ u g e p. each.table i u g h e p)))

@@ -1,5 +1,5 @@
 -- What a child's map has from its parent's.
-use Rattle.std.proofs.Common.{◌≡◌, ℕ, ◌+◌, ◌/◌, ◌%◌, ◌<◌, ◌⊎◌, inl, inr, Bool, true, false, cond, ◌==◌, List, Option, Some, None, refl, ap, ◌∙◌, sym, subst, arith, slice_get}
+use Rattle.std.proofs.Common.{◌≡◌, ℕ, ◌+◌, ◌/◌, ◌%◌, ◌⊎◌, inl, inr, Bool, true, false, cond, ◌==◌, List, Option, Some, None, refl, ap, ◌∙◌, sym, subst, slice_get}
 use Rattle.std.proofs.lemmas.Option.{same_Some}
 use Rattle.hv_word.specs.Words.{field_of}
 use Rattle.hv_word.specs.Storage.{word_at}
@@ -10,7 +10,7 @@ use Rattle.hv_store.specs.declared.access.Way.{Way}
 use Rattle.hv_store.specs.declared.access.Way.TheVariants.{Open, Shut}
 use Rattle.hv_store.specs.Access.{way_for}
 use Rattle.hv_map.specs.Compose.{Looked, Named, Stopped, present, look, page_named, table_of, word_in, entry_of, no_write, no_fetch, every, granted, placed, slot_of, reading, composed_slot, composed}
-use Rattle.hv_map.specs.Carried.{Opens, ShutAt, OpensSame, ShutBelow}
+use Rattle.hv_map.specs.Carried.{Opens, ShutAt, OpensSame}
 use Rattle.hv_map.proofs.Slots.{composed_at}
 
 -- a way for reading is that of a slot
@@ -53,9 +53,9 @@ module _ (S : List ℕ) (F : List Slot) (j : ℕ) (R : Slot → Type 0) (facts :
   table_stops : (t v i : ℕ) → Stops R (table_of S (reading F) j t v i)
   unfolding Stops
   table_stops t v i = elim (v == 2) as (λ b. Stops R (cond b (page_named (look S j i (i / 1024) (reading F t))) (Named (t + i / 1024)))) [
-      true ↦ named_stops (look S j i (i / 1024) (reading F t)) (look_stops i (i / 1024) t (reading F t) refl)
+    | true ↦ named_stops (look S j i (i / 1024) (reading F t)) (look_stops i (i / 1024) t (reading F t) refl)
     | false ↦ tt
-    ]
+  ]
 
   word_stops : (i : ℕ) (l : Looked) → Stops R l → Stops R (word_in S (reading F) j i l)
   unfolding Stops

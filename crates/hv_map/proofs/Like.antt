@@ -1,7 +1,7 @@
 -- Composing keeps a map like its twin: what the words of its table say is the same in the storage, and in the storage that
 -- the machine sees.
-use Rattle.std.proofs.Common.{◌≡◌, ℕ, ◌+◌, ◌/◌, ◌%◌, ◌<◌, ◌≤◌, ◌⊎◌, inl, inr, Bool, true, false, cond, ◌==◌, List, Option, Some, None, refl, ap, ◌∙◌, sym, subst, arith, slice_get, length}
-use Rattle.std.specs.Option.{option_map, unwrap_or}
+use Rattle.std.proofs.Common.{◌≡◌, ℕ, ◌+◌, ◌/◌, ◌%◌, ◌<◌, ◌≤◌, ◌⊎◌, inl, inr, Bool, true, false, cond, ◌==◌, List, Option, Some, None, refl, ap, sym, subst, arith, slice_get, length}
+use Rattle.std.specs.Option.{option_map}
 use Rattle.std.proofs.lemmas.Option.{slice_get_past}
 use Rattle.std.proofs.lemmas.Bool.{cases_lt}
 use Rattle.hv_word.specs.Words.{field_of}
@@ -12,7 +12,7 @@ use Rattle.hv_store.specs.declared.access.Slot.{Slot}
 use Rattle.hv_store.specs.declared.access.Way.{Way}
 use Rattle.hv_store.specs.declared.access.Way.TheVariants.{Open, Shut}
 use Rattle.hv_store.specs.Access.{way_for}
-use Rattle.hv_map.specs.Compose.{Looked, Named, Stopped, present, look, page_named, table_of, word_in, entry_of, no_write, no_fetch, every, granted, placed, slot_of, reading, composed_slot, composed}
+use Rattle.hv_map.specs.Compose.{Looked, Named, Stopped, present, look, page_named, table_of, word_in, entry_of, no_write, no_fetch, every, placed, slot_of, reading, composed_slot, composed}
 use Rattle.hv_map.specs.Carried.{IsBelow, IsCarried, WayLike, SlotLike, MapLike, ShutBelow, Agree}
 use Rattle.hv_map.proofs.Slots.{slice_get-composed, length-composed}
 
@@ -57,8 +57,8 @@ named_like k (Stopped h) (Stopped g) (inr e) = inr e
 present_like : (k j i w : ℕ) → LookedLike k (present (j + k) i w) (present j i w)
 present_like k j i w =
     elim (w % 2 == 0) as (λ b. LookedLike k (cond b (Stopped (Shut (j + k) 1 i None)) (Named w)) (cond b (Stopped (Shut j 1 i None)) (Named w))) [
-      true ↦ inr refl
-    | false ↦ inr refl
+      | true ↦ inr refl
+      | false ↦ inr refl
     ]
 
 module _ (k : ℕ) (F : List Slot) (S T : List ℕ) (below : ShutBelow k F) (agree : Agree F S T) where
@@ -89,8 +89,8 @@ module _ (k : ℕ) (F : List Slot) (S T : List ℕ) (below : ShutBelow k F) (agr
     table_like : (j t v i : ℕ) → i / 1024 < 1024 → LookedLike k (table_of S (reading H) (j + k) t v i) (table_of T (reading G) j t v i)
     table_like j t v i lt =
         elim (v == 2) as (λ b. LookedLike k (cond b (page_named (look S (j + k) i (i / 1024) (reading H t))) (Named (t + i / 1024))) (cond b (page_named (look T j i (i / 1024) (reading G t))) (Named (t + i / 1024)))) [
-          true ↦ named_like k (look S (j + k) i (i / 1024) (reading H t)) (look T j i (i / 1024) (reading G t)) (page_like j i (i / 1024) t lt)
-        | false ↦ inr refl
+          | true ↦ named_like k (look S (j + k) i (i / 1024) (reading H t)) (look T j i (i / 1024) (reading G t)) (page_like j i (i / 1024) t lt)
+          | false ↦ inr refl
         ]
 
     word_like : (j i : ℕ) (h g : Looked) → LookedLike k h g → LookedLike k (word_in S (reading H) (j + k) i h) (word_in T (reading G) j i g)
@@ -149,16 +149,16 @@ module _ (k : ℕ) (F : List Slot) (S T : List ℕ) (below : ShutBelow k F) (agr
 
     pub composed_like : (j n t v : ℕ) → n ≤ 1048576 → MapLike k F (composed S H (j + k) n t v) (composed T G j n t v)
     composed_like j n t v bound i = elim (cases_lt i n) [
-          inl h ↦
-            let lt : i / 1024 < 1024 = omega arith in
-            both_at (slice_get (composed S H (j + k) n t v) i) (slice_get (composed T G j n t v) i) (Some (composed_slot S H (j + k) t v i)) (Some (composed_slot T G j t v i))
-            (slice_get-composed S H (j + k) n t v i h) (slice_get-composed T G j n t v i h) (composed_slot_like j t v i lt)
-        | inr h ↦
-            let past : length (composed S H (j + k) n t v) ≤ i = omega (arith, length-composed S H (j + k) n t v) in
-            let past' : length (composed T G j n t v) ≤ i = omega (arith, length-composed T G j n t v) in
-            both_at (slice_get (composed S H (j + k) n t v) i) (slice_get (composed T G j n t v) i) None None
-            (slice_get_past (composed S H (j + k) n t v) i past) (slice_get_past (composed T G j n t v) i past') tt
-        ]
+      | inl h ↦
+          let lt : i / 1024 < 1024 = omega arith in
+          both_at (slice_get (composed S H (j + k) n t v) i) (slice_get (composed T G j n t v) i) (Some (composed_slot S H (j + k) t v i)) (Some (composed_slot T G j t v i))
+          (slice_get-composed S H (j + k) n t v i h) (slice_get-composed T G j n t v i h) (composed_slot_like j t v i lt)
+      | inr h ↦
+          let past : length (composed S H (j + k) n t v) ≤ i = omega (arith, length-composed S H (j + k) n t v) in
+          let past' : length (composed T G j n t v) ≤ i = omega (arith, length-composed T G j n t v) in
+          both_at (slice_get (composed S H (j + k) n t v) i) (slice_get (composed T G j n t v) i) None None
+          (slice_get_past (composed S H (j + k) n t v) i past) (slice_get_past (composed T G j n t v) i past') tt
+    ]
       where
         both_at : (o p x y : Option Slot) → o ≡ x → p ≡ y → SlotLike k F x y → SlotLike k F o p
         both_at o p x y e f h = subst (λ (z : Option Slot). SlotLike k F z p) (sym e) (subst (λ (z : Option Slot). SlotLike k F x z) (sym f) h)

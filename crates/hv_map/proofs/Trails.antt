@@ -1,6 +1,6 @@
 -- The way of a page found from the inside out is the one that the map has, which is composed from the outside in.
-use Rattle.std.proofs.Common.{◌≡◌, ℕ, ◌+◌, ◌/◌, ◌%◌, ◌<◌, ◌≤◌, inl, inr, Bool, true, false, cond, ◌==◌, List, [], ◌∷◌, ◌++◌, length, Option, Some, None, refl, ap, ◌∙◌, sym, subst, arith, slice_get, get_or}
-use Rattle.std.specs.Prelude.{reverse, nat_lt}
+use Rattle.std.proofs.Common.{◌≡◌, ℕ, ◌+◌, ◌/◌, ◌%◌, ◌<◌, ◌≤◌, inl, inr, Bool, cond, ◌==◌, List, [], ◌∷◌, ◌++◌, length, Option, Some, None, refl, ap, ◌∙◌, sym, subst, arith, slice_get, get_or}
+use Rattle.std.specs.Prelude.{reverse}
 use Rattle.std.specs.Option.{option_map}
 use Rattle.std.proofs.lemmas.Option.{slice_get_past, slice_get-get_or, slice_get_within, same_Some}
 use Rattle.std.proofs.lemmas.List.{reverse-append, reverse-reverse, length-reverse}
@@ -26,6 +26,7 @@ entry_alike S r q j t v i same = in_table (table_of S r j t v i) ∙ ap (word_in
   where
     table : table_of S r j t v i ≡ table_of S q j t v i
     table = ap (λ (way : Option Way). cond (v == 2) (page_named (look S j i (i / 1024) way)) (Named (t + i / 1024))) (same t)
+
     in_table : (l : Looked) → word_in S r j i l ≡ word_in S q j i l
     in_table (Named u) = ap (look S j i (i % 1024)) (same u)
     in_table (Stopped way) = refl
@@ -46,15 +47,15 @@ module _ (F : List Slot) (m : ℕ) (outer : ℕ → Access → Way) (gives : Giv
 
   reading_gives : (u : ℕ) → reading F u ≡ outer_reading outer m u
   reading_gives u = elim (cases_lt u m) [
-        inl h ↦
-          let there = slot_there u h in
-          ap (option_map (λ (s : Slot). s.read)) there.1
-          ∙ ap Some (gives.ways u there.0 Read there.1)
-          ∙ sym (ap (λ (b : Bool). cond b (Some (outer u Read)) None) (lt-ltb u m h))
-      | inr h ↦
-          ap (option_map (λ (s : Slot). s.read)) (none_there u h)
-          ∙ sym (ap (λ (b : Bool). cond b (Some (outer u Read)) None) (le-ltb u m h))
-      ]
+    | inl h ↦
+        let there = slot_there u h in
+        ap (option_map (λ (s : Slot). s.read)) there.1
+        ∙ ap Some (gives.ways u there.0 Read there.1)
+        ∙ sym (ap (λ (b : Bool). cond b (Some (outer u Read)) None) (lt-ltb u m h))
+    | inr h ↦
+        ap (option_map (λ (s : Slot). s.read)) (none_there u h)
+        ∙ sym (ap (λ (b : Bool). cond b (Some (outer u Read)) None) (le-ltb u m h))
+  ]
 
   granted_gives : (j v i e q : ℕ) (s : Slot) → slice_get F q ≡ Some s → (a : Access) → way_for (granted j v i e s) a ≡ cond (refuses v e a) (Shut j (refusal_cause a) i None) (outer q a)
   granted_gives j v i e q s is Read = gives.ways q s Read is
@@ -69,34 +70,34 @@ module _ (F : List Slot) (m : ℕ) (outer : ℕ → Access → Way) (gives : Giv
   slot_gives : (j v i : ℕ) (l : Looked) (a : Access) → way_for (slot_of F j v i l) a ≡ go_out outer m j v i a l
   slot_gives j v i (Stopped way) a = every_way way a
   slot_gives j v i (Named e) a = elim (cases_lt (field_of e 12 20) m) [
-        inl h ↦
-          let there = slot_there (field_of e 12 20) h in
-          ap (λ (o : Option Slot). way_for (placed j v i e o) a) there.1
-          ∙ granted_gives j v i e (field_of e 12 20) there.0 there.1 a
-          ∙ sym (ap (λ (b : Bool). cond b (cond (refuses v e a) (Shut j (refusal_cause a) i None) (outer (field_of e 12 20) a)) (Shut j 3 i None)) (lt-ltb (field_of e 12 20) m h))
-      | inr h ↦
-          ap (λ (o : Option Slot). way_for (placed j v i e o) a) (none_there (field_of e 12 20) h)
-          ∙ every_way (Shut j 3 i None) a
-          ∙ sym (ap (λ (b : Bool). cond b (cond (refuses v e a) (Shut j (refusal_cause a) i None) (outer (field_of e 12 20) a)) (Shut j 3 i None)) (le-ltb (field_of e 12 20) m h))
-      ]
+    | inl h ↦
+        let there = slot_there (field_of e 12 20) h in
+        ap (λ (o : Option Slot). way_for (placed j v i e o) a) there.1
+        ∙ granted_gives j v i e (field_of e 12 20) there.0 there.1 a
+        ∙ sym (ap (λ (b : Bool). cond b (cond (refuses v e a) (Shut j (refusal_cause a) i None) (outer (field_of e 12 20) a)) (Shut j 3 i None)) (lt-ltb (field_of e 12 20) m h))
+    | inr h ↦
+        ap (λ (o : Option Slot). way_for (placed j v i e o) a) (none_there (field_of e 12 20) h)
+        ∙ every_way (Shut j 3 i None) a
+        ∙ sym (ap (λ (b : Bool). cond b (cond (refuses v e a) (Shut j (refusal_cause a) i None) (outer (field_of e 12 20) a)) (Shut j 3 i None)) (le-ltb (field_of e 12 20) m h))
+  ]
 
   pub composed_gives : (S : List ℕ) (j : ℕ) (x : Item) → Gives (composed S F j x.pages x.table x.version) x.pages (step_out S outer m j x)
   unfolding composed_slot
   composed_gives S j x = record {
     size = length-composed S F j x.pages x.table x.version;
     ways = λ i s a is.
-      ap (λ (r : Slot). way_for r a) (composed_at S F j x.pages x.table x.version i s is)
-      ∙ slot_gives j x.version i (entry_of S (reading F) j x.table x.version i) a
-      ∙ ap (go_out outer m j x.version i a) (entry_alike S (reading F) (outer_reading outer m) j x.table x.version i reading_gives);
+        ap (λ (r : Slot). way_for r a) (composed_at S F j x.pages x.table x.version i s is)
+        ∙ slot_gives j x.version i (entry_of S (reading F) j x.table x.version i) a
+        ∙ ap (go_out outer m j x.version i a) (entry_alike S (reading F) (outer_reading outer m) j x.table x.version i reading_gives);
   }
 
 identity_gives : (P : ℕ) → Gives (identity P) P (λ i a. Open i)
 identity_gives P = record {
   size = length-identity P;
   ways = λ i s a is.
-    let inside : i < P = (let h : i < length (identity P) = slice_get_within (identity P) i s is in omega (arith, length-identity P)) in
-    let same : s ≡ open_at i = same_Some s (open_at i) (sym is ∙ slice_get-identity P i inside) in
-    ap (λ (r : Slot). way_for r a) same ∙ open_way i a;
+      let inside : i < P = (let h : i < length (identity P) = slice_get_within (identity P) i s is in omega (arith, length-identity P)) in
+      let same : s ≡ open_at i = same_Some s (open_at i) (sym is ∙ slice_get-identity P i inside) in
+      ap (λ (r : Slot). way_for r a) same ∙ open_way i a;
 }
   where
     open_way : (i : ℕ) (a : Access) → way_for (open_at i) a ≡ Open i
@@ -112,9 +113,9 @@ trail_gives S P (x ∷ xs) =
     let turned : reverse (x ∷ xs) ≡ reverse xs ++ x ∷ [] = reverse-append (x ∷ []) xs in
     let level : 0 + length (reverse xs) ≡ length xs = omega (arith, length-reverse xs) in
     let is : along S (identity P) 0 (reverse (x ∷ xs)) ≡ composed S (along S (identity P) 0 (reverse xs)) (length xs) x.pages x.table x.version =
-        ap (along S (identity P) 0) turned
-        ∙ along-snoc S (identity P) 0 (reverse xs) x
-        ∙ ap (λ (k : ℕ). composed S (along S (identity P) 0 (reverse xs)) k x.pages x.table x.version) level in
+    ap (along S (identity P) 0) turned
+    ∙ along-snoc S (identity P) 0 (reverse xs) x
+    ∙ ap (λ (k : ℕ). composed S (along S (identity P) 0 (reverse xs)) k x.pages x.table x.version) level in
     subst (λ (F : List Slot). Gives F x.pages (step_out S (trail S P xs) (pages_of P xs) (length xs) x)) (sym is)
     (composed_gives (along S (identity P) 0 (reverse xs)) (pages_of P xs) (trail S P xs) (trail_gives S P xs) S (length xs) x)
 
@@ -122,7 +123,7 @@ pub trail_is : (S : List ℕ) (items : List Item) (i : ℕ) (s : Slot) (a : Acce
 unfolding map_along
 trail_is S items i s a is =
     let there : slice_get (along S (identity (page_count S)) 0 (reverse (reverse items))) i ≡ Some s =
-        ap (λ (xs : List Item). slice_get (along S (identity (page_count S)) 0 xs) i) (reverse-reverse items) ∙ is in
+    ap (λ (xs : List Item). slice_get (along S (identity (page_count S)) 0 xs) i) (reverse-reverse items) ∙ is in
     (trail_gives S (page_count S) (reverse items)).ways i s a there
 
 pub trail_law : (S path : List ℕ) (F : List Slot) (i : ℕ) (s : Slot) (a : Access) → map_of S path ≡ Some F → slice_get F i ≡ Some s → trail_of S path i a ≡ Some (way_for s a)

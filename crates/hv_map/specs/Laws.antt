@@ -1,5 +1,5 @@
 -- The laws of composed maps, as statements.
-use Rattle.std.specs.Prelude.{◌≡◌, ℕ, ◌+◌, ◌^◌, ◌≤◌, ◌⊎◌, List, length, Option, Some, slice_get}
+use Rattle.std.specs.Prelude.{◌≡◌, ℕ, ◌+◌, ◌^◌, ◌≤◌, ◌⊎◌, List, ◌++◌, length, Option, Some, slice_get}
 use Rattle.hv_word.specs.Storage.{word_at}
 use Rattle.hv_store.specs.declared.access.Slot.{Slot}
 use Rattle.hv_store.specs.declared.access.Access.{Access}
@@ -7,6 +7,7 @@ use Rattle.hv_store.specs.declared.access.Way.TheVariants.{Open, Shut}
 use Rattle.hv_store.specs.Access.{way_for}
 use Rattle.hv_map.specs.Compose.{composed, EachTableWord}
 use Rattle.hv_map.specs.Chain.{map_of}
+use Rattle.hv_map.specs.Seen.{seen}
 use Rattle.hv_map.specs.Trail.{trail_of}
 use Rattle.hv_map.specs.Carried.{Agree, MapLike, Opens, OpensSame, ShutAt, ShutBelow}
 
@@ -60,3 +61,17 @@ TrailLaw =
     → map_of S path ≡ Some F
     → slice_get F i ≡ Some s
     → trail_of S path i a ≡ Some (way_for s a)
+
+-- Maps associate: where there is a map of the path p followed by q, there is one of p, and one of q in what the machine at
+-- the end of p sees, with as many slots. Each way of the first is refused at a level below the length of p, or is the way
+-- of the last carried through the map of p.
+abbrev pub AssociativeLaw : Type 0
+AssociativeLaw =
+    (S p q : List ℕ) (H : List Slot)
+    → map_of S (p ++ q) ≡ Some H
+    → (F : List Slot)
+    × (G : List Slot)
+    × (map_of S p ≡ Some F)
+    × (map_of (seen S F) q ≡ Some G)
+    × (length H ≡ length G)
+    × MapLike (length p) F H G

@@ -1,0 +1,50 @@
+//! What always holds of composed maps. Each function here is empty: it states one law, which is proved.
+
+ghost use Rattle.hv_map.specs.Laws.{SizeLaw, TableLaw, OpensLaw, SameLaw, LevelLaw, CarryLaw, TrailLaw, AssociativeLaw};
+
+/// A child's map has a slot for each of its pages, and no other.
+pub fn map_has_each_page()
+    ensures { SizeLaw }
+{}
+
+/// A child's map depends on no words but those of its table, and of its directory, that its parent can read: it is the
+/// same for two storages that agree on them.
+pub fn map_depends_on_table_words()
+    ensures { TableLaw }
+{}
+
+/// A child's map opens no page, for any access, but those that its parent's map opens for that access.
+pub fn map_opens_only_parents_pages()
+    ensures { OpensLaw }
+{}
+
+/// Where the open ways of the parent's map for writing and fetching are its open ways for reading of the same pages, so
+/// are those of the child's.
+pub fn map_opens_same_page()
+    ensures { SameLaw }
+{}
+
+/// A way that is shut in a child's map is shut at its parent's level, or at the level of a way that is shut in the
+/// parent's map.
+pub fn map_is_shut_at_known_levels()
+    ensures { LevelLaw }
+{}
+
+/// Composing and carrying change places: where a storage agrees with what a machine sees of it, the map of a child in the
+/// one, carried through that machine's map, is the map of the child in the other, but for ways that are refused further out.
+pub fn map_is_carried()
+    ensures { CarryLaw }
+{}
+
+/// For every path with a map, the way of each page of the machine, for each access, is the one that is found from the
+/// inside out.
+pub fn trail_is_map()
+    ensures { TrailLaw }
+{}
+
+/// Maps associate: the map at the end of a path in two parts is the map at the end of the second part, in the storage
+/// that the machine at the end of the first part sees, carried through that machine's map, but for ways that are refused
+/// further out.
+pub fn maps_associate()
+    ensures { AssociativeLaw }
+{}

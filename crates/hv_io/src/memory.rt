@@ -1,6 +1,6 @@
 //! Sources and sinks in memory, which tell their bytes and fail where they are made to.
 
-ghost use Rattle.std.specs.Prelude.{◌≡◌, ℕ, ◌+◌, ◌^◌, ◌<◌, ◌≤◌, min, List, [], ◌++◌, length, take, drop, None, Some, IfOk, OnErr, MatchBool, IsErr, vec_capacity};
+ghost use Rattle.std.specs.Prelude.{◌≡◌, ℕ, ◌+◌, ◌^◌, ◌<◌, ◌≤◌, min, List, [], ◌++◌, length, take, drop, None, Some, IfOk, OnErr, MatchBool, IsErr};
 ghost use Rattle.std.specs.Io.{ReadsAtMost, WritesAtMost};
 ghost use Rattle.std.specs.Io.KnownBytes.{ReadConsumes, WriteAppends};
 ghost use Rattle.hv_io.specs.Faults.{HasCause, IsFull};
@@ -143,7 +143,6 @@ pub struct MemSink {
 }
 
 impl Model for MemSink {
-    ghost use Rattle.std.specs.Prelude.{◌≡◌, ℕ, ◌^◌, ◌<◌, ◌≤◌, List, [], length, vec_capacity};
     ghost use Rattle.hv_io.specs.Memory.{SinkState};
 
     ghost Value = { SinkState };

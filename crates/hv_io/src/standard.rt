@@ -1,9 +1,8 @@
 //! A source and a sink over any reader and writer of std: the trusted edge, which tells no bytes.
 
-ghost use Rattle.std.specs.Prelude.{◌≡◌, ℕ, List, ◌^◌, ◌<◌, length, None, IfOk, OnErr};
+ghost use Rattle.std.specs.Prelude.{◌≡◌, ℕ, ◌^◌, ◌<◌, length, None, IfOk};
 ghost use Rattle.std.specs.Io.{ReadsAtMost, WritesAtMost};
-ghost use Rattle.std.specs.Io.KnownBytes.{ReadConsumes, WriteAppends};
-ghost use Rattle.hv_io.specs.Faults.{Making, HasCause, IsFull, CountsFailure};
+ghost use Rattle.hv_io.specs.Faults.{HasCause, CountsFailure};
 
 use super::{Failed, Sink, Source};
 use std::io::{Read, Write};

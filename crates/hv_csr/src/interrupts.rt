@@ -1,6 +1,6 @@
 //! Which interrupt is to be taken.
 
-ghost use Rattle.std.specs.Prelude.{◌≡◌, ◌-◌};
+ghost use Rattle.std.specs.Prelude.{◌≡◌, ◌-◌, ◌<◌, IfSome};
 ghost use Rattle.std.specs.Int.RustNames.{bit_and};
 ghost use Rattle.hv_csr.specs.Interrupts.{among, by_urgency, first_in, is_open_m, is_open_s, pending_of};
 
@@ -12,7 +12,8 @@ use hv_word::field;
 /// delegated one, of those that are pending, enabled, and not held back by the mode. None where there
 /// is none.
 pub fn pending(cpu: &Cpu) -> Option<u32>
-    ensures { result ≡ pending_of cpu.now }
+    ensures takes { result ≡ pending_of cpu.now }
+    ensures within { IfSome result (λ k. k < 16) }
 {
     let raised = cpu.mip & cpu.mie;
     let delegated = raised & cpu.mideleg;
@@ -39,7 +40,8 @@ fn without(raised: u32, delegated: u32) -> u32
 
 // The most urgent interrupt in a set.
 fn most_urgent(set: u32) -> Option<u32>
-    ensures { result ≡ first_in by_urgency set }
+    ensures first { result ≡ first_in by_urgency set }
+    ensures within { IfSome result (λ k. k < 16) }
 {
     let set = Interrupts::from_bits_retain(set);
     if set.contains(Interrupts::MEI) {

@@ -1,0 +1,6 @@
+pub mod Act
+pub mod Answer
+pub mod Arithmetic
+pub mod Do
+pub mod Memory
+pub mod System

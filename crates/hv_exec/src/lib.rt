@@ -1,2 +1,11 @@
-//! One instruction.
+//! One instruction of a machine.
 #![tactic(auto)]
+
+mod answer;
+mod arithmetic;
+mod instruction;
+mod memory;
+mod rows;
+mod system;
+
+pub use instruction::act;

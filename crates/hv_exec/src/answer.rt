@@ -1,0 +1,129 @@
+//! What one instruction asks for, and the ways to go on from it.
+
+ghost use Rattle.std.specs.Prelude.{◌≡◌, ◌<◌};
+ghost use Rattle.hv_exec.specs.Answer.{advanced, given, jumped, branched, passed, answered, KeepsUnlessDone, IsInRange, Next};
+ghost use Rattle.hv_exec.specs.declared.answer.Task.TheVariants.{Trap as TrapTask};
+
+use hv_cpu::Cpu;
+
+/// How much a load or a store moves.
+#[derive(Clone, Copy)]
+pub(crate) enum Width {
+    Byte,
+    Half,
+    Word,
+}
+
+/// What is left to do after an instruction's own work on the registers. They are as before unless it is done.
+#[derive(Clone, Copy)]
+pub(crate) enum Task {
+    Done,
+    Trap {
+        cause: u32,
+        tval: u32,
+    },
+    Load {
+        address: u32,
+        width: Width,
+        signed: bool,
+        rd: u8,
+    },
+    Store {
+        address: u32,
+        width: Width,
+        value: u32,
+    },
+}
+
+/// Goes on to the next instruction.
+#[tactic(auto, unfolding(crate::specs::Answer::advanced))]
+pub(crate) fn advance(cpu: &mut Cpu)
+    ensures next { cpu.new.next ≡ cpu.old.next }
+    ensures advances { cpu.new ≡ advanced cpu.old }
+{
+    cpu.pc = cpu.pc.wrapping_add(4);
+}
+
+/// Puts a value into register `rd` and goes on to the next instruction.
+#[tactic(auto, unfolding(crate::specs::Answer::given))]
+pub(crate) fn give(cpu: &mut Cpu, rd: u8, value: u32) -> Task
+    requires { rd < 32 }
+    ensures does { answered result cpu.new ≡ Next (given cpu.old rd value) }
+    ensures keeps { KeepsUnlessDone result cpu.old cpu.new }
+    ensures range { IsInRange result }
+    ensures next { cpu.new.next ≡ cpu.old.next }
+{
+    cpu.set_x(rd, value);
+    advance(cpu);
+    Task::Done
+}
+
+/// An illegal instruction, whose word is `word`.
+pub(crate) fn illegal(word: u32) -> Task
+    ensures { result ≡ TrapTask 2 word }
+{
+    Task::Trap {
+        cause: 2,
+        tval: word,
+    }
+}
+
+/// Goes on where that is allowed; else the instruction is illegal.
+pub(crate) fn pass(cpu: &mut Cpu, allowed: bool, word: u32) -> Task
+    ensures does { answered result cpu.new ≡ passed allowed word cpu.old }
+    ensures keeps { KeepsUnlessDone result cpu.old cpu.new }
+    ensures range { IsInRange result }
+    ensures next { cpu.new.next ≡ cpu.old.next }
+{
+    if !allowed {
+        return illegal(word);
+    }
+    advance(cpu);
+    Task::Done
+}
+
+/// Jumps to `target`, with the address of the next instruction in register `rd`.
+#[tactic(auto, unfolding(crate::specs::Answer::jumped))]
+pub(crate) fn jump(cpu: &mut Cpu, rd: u8, target: u32) -> Task
+    requires { rd < 32 }
+    ensures does { answered result cpu.new ≡ jumped cpu.old rd target }
+    ensures keeps { KeepsUnlessDone result cpu.old cpu.new }
+    ensures range { IsInRange result }
+    ensures next { cpu.new.next ≡ cpu.old.next }
+{
+    if target % 4 != 0 {
+        return misaligned(target);
+    }
+    cpu.set_x(rd, cpu.pc.wrapping_add(4));
+    cpu.pc = target;
+    Task::Done
+}
+
+/// Jumps to `target` where the branch is taken, and else goes on.
+#[tactic(auto, unfolding(crate::specs::Answer::branched))]
+pub(crate) fn branch(cpu: &mut Cpu, taken: bool, target: u32) -> Task
+    ensures does { answered result cpu.new ≡ branched cpu.old taken target }
+    ensures keeps { KeepsUnlessDone result cpu.old cpu.new }
+    ensures range { IsInRange result }
+    ensures next { cpu.new.next ≡ cpu.old.next }
+{
+    if !taken {
+        advance(cpu);
+        return Task::Done;
+    }
+    if target % 4 != 0 {
+        return misaligned(target);
+    }
+    cpu.pc = target;
+    Task::Done
+}
+
+// A jump to an address that is no multiple of 4.
+fn misaligned(target: u32) -> Task
+    ensures { result ≡ TrapTask 0 target }
+{
+    Task::Trap {
+        cause: 0,
+        tval: target,
+    }
+}

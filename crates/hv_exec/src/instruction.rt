@@ -1,0 +1,181 @@
+//! One instruction of a machine over its storage.
+
+ghost use Rattle.std.specs.Prelude.{◌≡◌, ◌<◌, OnErr, IfErr, length};
+ghost use Rattle.hv_isa.specs.Table.{NamesRegs};
+ghost use Rattle.hv_sv32.specs.Walk.{walk_of};
+ghost use Rattle.hv_exec.specs.Do.{do_of};
+ghost use Rattle.hv_exec.specs.Act.{act_of, acted, carried_out, load_at, store_at};
+
+use crate::answer::{Task, Width, advance, give};
+use crate::memory::{extend, lane};
+use crate::rows::perform;
+use hv_cpu::Cpu;
+use hv_csr::take_trap;
+use hv_isa::{Instr, decode};
+use hv_store::{Access, Refusal, Space};
+use hv_sv32::{Stop, translate};
+use hv_word::lane_get;
+
+/// Executes one instruction of a hart, or takes its trap. An error is the refusal of a word that was asked for; then
+/// nothing changed. At most one of its asks writes, and it is the last: the space need have room for one alone.
+#[tactic(auto, unfolding(crate::specs::Act::act_of, crate::specs::Act::fetch_at, crate::specs::Act::decoded))]
+pub fn act<S: Space>(cpu: &mut Cpu, hart: u32, space: &mut S) -> Result<(), Refusal>
+    requires next { cpu.old.next ≡ 0 }
+    requires room { 0 < S.room space.old }
+    ensures acts { acted result (S.storage space.new) cpu.new
+        ≡ act_of (S.storage space.old) (S.slots space.old) hart cpu.old }
+    ensures next { cpu.new.next ≡ 0 }
+    ensures len { length (S.storage space.new) ≡ length (S.storage space.old) }
+    ensures level { IfErr result (λ e. e.level < S.depth space.old) }
+    ensures err_storage { OnErr result (S.storage space.new ≡ S.storage space.old) }
+    ensures err_slots { OnErr result (S.slots space.new ≡ S.slots space.old) }
+    ensures err_cpu { OnErr result (cpu.new ≡ cpu.old) }
+    ensures depth { S.depth space.new ≡ S.depth space.old }
+    ensures place { S.place space.new ≡ S.place space.old }
+    ensures frame { S.frame space.new ≡ S.frame space.old }
+    ensures origin { S.origin space.new ≡ S.origin space.old }
+{
+    let at = match translate(cpu, space, cpu.pc, Access::Fetch) {
+        Ok(at) => at,
+        Err(Stop::Trap { cause, tval }) => {
+            take_trap(cpu, cause, false, tval);
+            return Ok(());
+        }
+        Err(Stop::Refused(refusal)) => return Err(refusal),
+    };
+    let _pages = space.pages();
+    let word = space.read((at / 4096) as u32, (at % 4096 / 4) as u32, Access::Fetch)?;
+    match decode(word) {
+        Some(instr) => execute(cpu, hart, space, word, &instr),
+        None => {
+            take_trap(cpu, 2, false, word);
+            Ok(())
+        }
+    }
+}
+
+// Executes an instruction whose word was fetched.
+#[tactic(auto, unfolding(crate::specs::Act::carried_out))]
+fn execute<S: Space>(
+    cpu: &mut Cpu,
+    hart: u32,
+    space: &mut S,
+    word: u32,
+    instr: &Instr,
+) -> Result<(), Refusal>
+    requires regs { NamesRegs instr.now }
+    requires next { cpu.old.next ≡ 0 }
+    requires room { 0 < S.room space.old }
+    ensures acts { acted result (S.storage space.new) cpu.new
+        ≡ carried_out (S.storage space.old) (S.slots space.old) cpu.old (do_of instr.now word cpu.old hart) }
+    ensures next { cpu.new.next ≡ 0 }
+    ensures len { length (S.storage space.new) ≡ length (S.storage space.old) }
+    ensures level { IfErr result (λ e. e.level < S.depth space.old) }
+    ensures err_storage { OnErr result (S.storage space.new ≡ S.storage space.old) }
+    ensures err_slots { OnErr result (S.slots space.new ≡ S.slots space.old) }
+    ensures err_cpu { OnErr result (cpu.new ≡ cpu.old) }
+    ensures depth { S.depth space.new ≡ S.depth space.old }
+    ensures place { S.place space.new ≡ S.place space.old }
+    ensures frame { S.frame space.new ≡ S.frame space.old }
+    ensures origin { S.origin space.new ≡ S.origin space.old }
+{
+    match perform(cpu, hart, word, instr) {
+        Task::Done => Ok(()),
+        Task::Trap { cause, tval } => {
+            take_trap(cpu, cause, false, tval);
+            Ok(())
+        }
+        Task::Load {
+            address,
+            width,
+            signed,
+            rd,
+        } => load(cpu, space, address, width, signed, rd),
+        Task::Store {
+            address,
+            width,
+            value,
+        } => store(cpu, space, address, width, value),
+    }
+}
+
+// Loads register `rd` from an aligned address.
+fn load<S: Space>(
+    cpu: &mut Cpu,
+    space: &mut S,
+    address: u32,
+    width: Width,
+    signed: bool,
+    rd: u8,
+) -> Result<(), Refusal>
+    requires rd { rd < 32 }
+    requires next { cpu.old.next ≡ 0 }
+    requires room { 0 < S.room space.old }
+    ensures acts { acted result (S.storage space.new) cpu.new
+        ≡ load_at (S.storage space.old) (S.slots space.old) cpu.old address width signed rd
+        (walk_of (S.storage space.old) (S.slots space.old) cpu.old address Access.Read) }
+    ensures next { cpu.new.next ≡ 0 }
+    ensures len { length (S.storage space.new) ≡ length (S.storage space.old) }
+    ensures level { IfErr result (λ e. e.level < S.depth space.old) }
+    ensures err_storage { OnErr result (S.storage space.new ≡ S.storage space.old) }
+    ensures err_slots { OnErr result (S.slots space.new ≡ S.slots space.old) }
+    ensures err_cpu { OnErr result (cpu.new ≡ cpu.old) }
+    ensures depth { S.depth space.new ≡ S.depth space.old }
+    ensures place { S.place space.new ≡ S.place space.old }
+    ensures frame { S.frame space.new ≡ S.frame space.old }
+    ensures origin { S.origin space.new ≡ S.origin space.old }
+{
+    let at = match translate(cpu, space, address, Access::Read) {
+        Ok(at) => at,
+        Err(Stop::Trap { cause, tval }) => {
+            take_trap(cpu, cause, false, tval);
+            return Ok(());
+        }
+        Err(Stop::Refused(refusal)) => return Err(refusal),
+    };
+    let _pages = space.pages();
+    let offset = (at % 4096) as u32;
+    let word = space.read((at / 4096) as u32, offset / 4, Access::Read)?;
+    let value = lane_get(word, lane(width, offset));
+    give(cpu, rd, extend(width, signed, value));
+    Ok(())
+}
+
+// Stores a value's low bits at an aligned address.
+fn store<S: Space>(
+    cpu: &mut Cpu,
+    space: &mut S,
+    address: u32,
+    width: Width,
+    value: u32,
+) -> Result<(), Refusal>
+    requires next { cpu.old.next ≡ 0 }
+    requires room { 0 < S.room space.old }
+    ensures acts { acted result (S.storage space.new) cpu.new
+        ≡ store_at (S.storage space.old) (S.slots space.old) cpu.old address width value
+        (walk_of (S.storage space.old) (S.slots space.old) cpu.old address Access.Write) }
+    ensures next { cpu.new.next ≡ 0 }
+    ensures len { length (S.storage space.new) ≡ length (S.storage space.old) }
+    ensures level { IfErr result (λ e. e.level < S.depth space.old) }
+    ensures err_storage { OnErr result (S.storage space.new ≡ S.storage space.old) }
+    ensures err_slots { OnErr result (S.slots space.new ≡ S.slots space.old) }
+    ensures err_cpu { OnErr result (cpu.new ≡ cpu.old) }
+    ensures depth { S.depth space.new ≡ S.depth space.old }
+    ensures place { S.place space.new ≡ S.place space.old }
+    ensures frame { S.frame space.new ≡ S.frame space.old }
+    ensures origin { S.origin space.new ≡ S.origin space.old }
+{
+    let at = match translate(cpu, space, address, Access::Write) {
+        Ok(at) => at,
+        Err(Stop::Trap { cause, tval }) => {
+            take_trap(cpu, cause, false, tval);
+            return Ok(());
+        }
+        Err(Stop::Refused(refusal)) => return Err(refusal),
+    };
+    let _pages = space.pages();
+    let offset = (at % 4096) as u32;
+    space.write((at / 4096) as u32, offset / 4, lane(width, offset), value)?;
+    advance(cpu);
+    Ok(())
+}

@@ -128,65 +128,65 @@ impl Model for Cpu {
     ghost inverse = { inside };
 }
 
-impl Cpu {
-    /// A hart as it starts: all registers zero, in mode M, with no machine to run.
-    pub fn reset() -> Cpu
-        ensures { result ≡ reset_regs }
-    {
-        Cpu {
-            pc: 0,
-            x1: 0,
-            x2: 0,
-            x3: 0,
-            x4: 0,
-            x5: 0,
-            x6: 0,
-            x7: 0,
-            x8: 0,
-            x9: 0,
-            x10: 0,
-            x11: 0,
-            x12: 0,
-            x13: 0,
-            x14: 0,
-            x15: 0,
-            x16: 0,
-            x17: 0,
-            x18: 0,
-            x19: 0,
-            x20: 0,
-            x21: 0,
-            x22: 0,
-            x23: 0,
-            x24: 0,
-            x25: 0,
-            x26: 0,
-            x27: 0,
-            x28: 0,
-            x29: 0,
-            x30: 0,
-            x31: 0,
-            mode: Mode::M,
-            mstatus: 0,
-            mtvec: 0,
-            mepc: 0,
-            mcause: 0,
-            mtval: 0,
-            mscratch: 0,
-            medeleg: 0,
-            mideleg: 0,
-            mie: 0,
-            mip: 0,
-            stvec: 0,
-            sepc: 0,
-            scause: 0,
-            stval: 0,
-            sscratch: 0,
-            satp: 0,
-            next: None,
-        }
+/// A hart as it starts: all registers zero, in mode M, with no machine to run.
+pub fn reset() -> Cpu
+    ensures { result ≡ reset_regs }
+{
+    Cpu {
+        pc: 0,
+        x1: 0,
+        x2: 0,
+        x3: 0,
+        x4: 0,
+        x5: 0,
+        x6: 0,
+        x7: 0,
+        x8: 0,
+        x9: 0,
+        x10: 0,
+        x11: 0,
+        x12: 0,
+        x13: 0,
+        x14: 0,
+        x15: 0,
+        x16: 0,
+        x17: 0,
+        x18: 0,
+        x19: 0,
+        x20: 0,
+        x21: 0,
+        x22: 0,
+        x23: 0,
+        x24: 0,
+        x25: 0,
+        x26: 0,
+        x27: 0,
+        x28: 0,
+        x29: 0,
+        x30: 0,
+        x31: 0,
+        mode: Mode::M,
+        mstatus: 0,
+        mtvec: 0,
+        mepc: 0,
+        mcause: 0,
+        mtval: 0,
+        mscratch: 0,
+        medeleg: 0,
+        mideleg: 0,
+        mie: 0,
+        mip: 0,
+        stvec: 0,
+        sepc: 0,
+        scause: 0,
+        stval: 0,
+        sscratch: 0,
+        satp: 0,
+        next: None,
     }
+}
 
+impl Cpu {
     /// Register `i` of x0 to x31; x0 is always 0.
     pub fn x(&self, i: u8) -> u32
         requires { i < 32 }
@@ -345,7 +345,7 @@ mod tests {
 
     #[test]
     fn registers_are_written_and_read(rt: HostRuntime) {
-        let mut cpu = Cpu::reset();
+        let mut cpu = reset();
         cpu.set_x(0, 7);
         cpu.set_x(1, 8);
         cpu.set_x(31, 9);
@@ -357,7 +357,7 @@ mod tests {
 
     #[test]
     fn a_reset_hart_is_in_machine_mode(rt: HostRuntime) {
-        let words = Cpu::reset().words();
+        let words = reset().words();
         for (place, word) in words.iter().enumerate() {
             assert_eq!(rt; *word, if place == 32 { 3 } else { 0 }, "at {place}");
         }
@@ -365,7 +365,7 @@ mod tests {
 
     #[test]
     fn next_is_none_or_below_the_pages(rt: HostRuntime) {
-        let mut cpu = Cpu::reset();
+        let mut cpu = reset();
         assert!(rt; cpu.well_formed(0));
         cpu.next = Some(2);
         assert!(rt; cpu.well_formed(3));
@@ -382,7 +382,7 @@ mod tests {
 
     #[test]
     fn lines_leave_the_interrupts_of_s(rt: HostRuntime) {
-        let mut cpu = Cpu::reset();
+        let mut cpu = reset();
         cpu.mip = 0x222;
         cpu.set_lines(0x880);
         assert_eq!(rt; cpu.mip, 0xAA2);

@@ -1,7 +1,7 @@
 //! Rows of the manual's rules, run.
 
 use super::*;
-use hv_cpu::{Cpu, Mode};
+use hv_cpu::{Mode, reset};
 
 #[test]
 fn pending_follows_delegation_and_urgency(rt: HostRuntime) {
@@ -15,7 +15,7 @@ fn pending_follows_delegation_and_urgency(rt: HostRuntime) {
         (0x088, Mode::M, 8, Some(3)),
         (0x0A0, Mode::S, 2, Some(7)),
     ] {
-        let mut cpu = Cpu::reset();
+        let mut cpu = reset();
         assert!(rt; csr_write(&mut cpu, 0x303, 0x222).is_ok());
         assert!(rt; csr_write(&mut cpu, 0x304, lines).is_ok());
         assert!(rt; csr_write(&mut cpu, 0x344, lines).is_ok());
@@ -28,7 +28,7 @@ fn pending_follows_delegation_and_urgency(rt: HostRuntime) {
 
 #[test]
 fn mstatus_keeps_its_mask_and_a_real_mode(rt: HostRuntime) {
-    let mut cpu = Cpu::reset();
+    let mut cpu = reset();
     assert!(rt; csr_write(&mut cpu, 0x300, 0xFFFF_FFFF).is_ok());
     assert_eq!(rt; csr_read(&cpu, 0, 0x300), Ok(0x007E_19AA));
     assert!(rt; csr_write(&mut cpu, 0x300, 0x1800).is_ok());
@@ -38,7 +38,7 @@ fn mstatus_keeps_its_mask_and_a_real_mode(rt: HostRuntime) {
 
 #[test]
 fn unknown_and_read_only_numbers_are_illegal(rt: HostRuntime) {
-    let mut cpu = Cpu::reset();
+    let mut cpu = reset();
     assert_eq!(rt; csr_read(&cpu, 0, 0xC00), Err(Illegal));
     assert_eq!(rt; csr_write(&mut cpu, 0xF14, 1), Err(Illegal));
     assert_eq!(rt; csr_read(&cpu, 3, 0xF14), Ok(3));
@@ -50,7 +50,7 @@ fn unknown_and_read_only_numbers_are_illegal(rt: HostRuntime) {
 
 #[test]
 fn a_timer_interrupt_is_taken_and_left(rt: HostRuntime) {
-    let mut cpu = Cpu::reset();
+    let mut cpu = reset();
     assert!(rt; csr_write(&mut cpu, 0x305, 0x21).is_ok());
     assert!(rt; csr_write(&mut cpu, 0x300, 8).is_ok());
     cpu.pc = 0x14;
@@ -67,7 +67,7 @@ fn a_timer_interrupt_is_taken_and_left(rt: HostRuntime) {
 
 #[test]
 fn a_delegated_call_goes_to_s_and_back(rt: HostRuntime) {
-    let mut cpu = Cpu::reset();
+    let mut cpu = reset();
     assert!(rt; csr_write(&mut cpu, 0x302, 0x100).is_ok());
     assert!(rt; csr_write(&mut cpu, 0x105, 0x41).is_ok());
     cpu.mode = Mode::U;

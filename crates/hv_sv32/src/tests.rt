@@ -5,6 +5,7 @@ ghost use Rattle.hv_word.specs.Words.{field_of};
 ghost use Rattle.hv_cpu.specs.Masks.{mstatus_mask};
 
 use super::*;
+use hv_cpu::reset;
 use hv_store::Store;
 use std::alloc::{AllocError, Global};
 use std::process::Abort;
@@ -27,7 +28,7 @@ fn hart(mode: Mode, mstatus: u32) -> Cpu
         mode,
         mstatus,
         satp: 0x8000_0001,
-        ..Cpu::reset()
+        ..reset()
     }
 }
 
@@ -140,7 +141,7 @@ fn small_pages(rt: HostRuntime) -> Result<(), Fail> {
 #[test]
 fn without_a_table(rt: HostRuntime) -> Result<(), Fail> {
     let mut store = storage(rt.alloc(), &[])?;
-    let cpu = Cpu::reset();
+    let cpu = reset();
     assert_eq!(rt;
         translate(&cpu, &mut store, 0x3FFF, Access::Write),
         Ok(0x3FFF)

@@ -7,5 +7,7 @@ mod instruction;
 mod memory;
 mod rows;
 mod system;
+#[cfg(test)]
+mod tests;
 
 pub use instruction::act;

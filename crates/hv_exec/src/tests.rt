@@ -3,7 +3,7 @@
 ghost use Rattle.std.specs.Prelude.{◌<◌};
 
 use super::*;
-use hv_cpu::{Cpu, Mode};
+use hv_cpu::{Cpu, Mode, reset};
 use hv_store::Store;
 use std::alloc::{AllocError, Global};
 use std::process::Abort;
@@ -71,7 +71,7 @@ fn computes(rt: HostRuntime) -> Result<(), Fail> {
         let cpu = Cpu {
             x1: a,
             x2: b,
-            ..Cpu::reset()
+            ..reset()
         };
         let cpu = one(&rt, rt.alloc(), cpu, word)?;
         assert_eq!(rt; (cpu.x3, cpu.pc), (want, 4), "{word:x}");
@@ -95,7 +95,7 @@ fn jumps(rt: HostRuntime) -> Result<(), Fail> {
         let cpu = Cpu {
             x1: a,
             x2: b,
-            ..Cpu::reset()
+            ..reset()
         };
         let cpu = one(&rt, rt.alloc(), cpu, word)?;
         assert_eq!(rt; (cpu.pc, cpu.x1), (pc, x1), "{word:x}");
@@ -109,7 +109,7 @@ fn moves_bytes_and_halves(rt: HostRuntime) -> Result<(), Fail> {
         rt.alloc(),
         &[0xFFF0_0093, 0x0410_0123, 0x0420_5103, 0x0420_0183],
     )?;
-    let cpu = after(&rt, Cpu::reset(), &mut store, 4);
+    let cpu = after(&rt, reset(), &mut store, 4);
     assert_eq!(rt; (cpu.pc, cpu.x1), (0x10, 0xFFFF_FFFF));
     assert_eq!(rt; (cpu.x2, cpu.x3), (0xFF, 0xFFFF_FFFF));
     assert_eq!(rt; word(&store, 16), 0x00FF_0000);
@@ -126,7 +126,7 @@ fn word(store: &Store, at: u32) -> u32
 
 #[test]
 fn a_misaligned_jump_writes_no_register(rt: HostRuntime) -> Result<(), Fail> {
-    let cpu = one(&rt, rt.alloc(), Cpu::reset(), 0x0060_00EF)?;
+    let cpu = one(&rt, rt.alloc(), reset(), 0x0060_00EF)?;
     assert_eq!(rt; (cpu.pc, cpu.x1), (0, 0));
     assert_eq!(rt; (cpu.mcause, cpu.mtval, cpu.mstatus), (0, 6, 0x1800));
     Ok(())
@@ -138,7 +138,7 @@ fn stores_up_to_the_end_of_storage(rt: HostRuntime) -> Result<(), Fail> {
         rt.alloc(),
         &[0x0000_4137, 0x0090_0193, 0xFE31_2E23, 0x0031_2023],
     )?;
-    let cpu = after(&rt, Cpu::reset(), &mut store, 4);
+    let cpu = after(&rt, reset(), &mut store, 4);
     assert_eq!(rt; (cpu.pc, cpu.x2, cpu.x3), (0, 0x4000, 9));
     assert_eq!(rt; (cpu.mepc, cpu.mcause, cpu.mtval), (0xC, 7, 0x4000));
     assert_eq!(rt; cpu.mstatus, 0x1800);
@@ -173,7 +173,7 @@ fn traps(rt: HostRuntime) -> Result<(), Fail> {
         let cpu = Cpu {
             mode,
             mstatus: TVM | TW | TSR,
-            ..Cpu::reset()
+            ..reset()
         };
         let cpu = one(&rt, rt.alloc(), cpu, word)?;
         assert_eq!(rt; (cpu.mcause, cpu.mtval), (cause, tval), "{word:x}");
@@ -194,7 +194,7 @@ fn page_faults_are_traps_of_the_guest(rt: HostRuntime) -> Result<(), Fail> {
             mode,
             mstatus,
             satp: 0x8000_0001,
-            ..Cpu::reset()
+            ..reset()
         };
         let cpu = one(&rt, rt.alloc(), cpu, word)?;
         assert_eq!(rt; (cpu.mcause, cpu.mtval), (cause, tval), "{word:x}");
@@ -215,7 +215,7 @@ fn reads_without_writing(rt: HostRuntime) -> Result<(), Fail> {
     let mut store = storage(rt.alloc(), &words)?;
     let cpu = Cpu {
         mstatus: TW | TVM,
-        ..Cpu::reset()
+        ..reset()
     };
     let cpu = after(&rt, cpu, &mut store, 5);
     assert_eq!(rt; (cpu.pc, cpu.x3), (0x14, 5));
@@ -233,7 +233,7 @@ fn sets_control_registers(rt: HostRuntime) -> Result<(), Fail> {
         0x0000_006F,
     ];
     let mut store = storage(rt.alloc(), &words)?;
-    let cpu = after(&rt, Cpu::reset(), &mut store, 7);
+    let cpu = after(&rt, reset(), &mut store, 7);
     assert_eq!(rt; (cpu.pc, cpu.x6), (0x14, 0x80));
     assert_eq!(rt; (cpu.mtvec, cpu.mie, cpu.mstatus), (0x20, 0x80, 8));
     Ok(())
@@ -265,7 +265,7 @@ fn runs_a_user_page(rt: HostRuntime) -> Result<(), Fail> {
         0x0000_006F,
     ];
     let mut store = storage(rt.alloc(), &words)?;
-    let cpu = after(&rt, Cpu::reset(), &mut store, 20);
+    let cpu = after(&rt, reset(), &mut store, 20);
     assert_eq!(rt; (cpu.pc, cpu.x6, cpu.x7), (0x4C, 0x3C, 0x1000));
     assert_eq!(rt; (cpu.x10, cpu.x11), (0x2A, 8));
     assert_eq!(rt; (cpu.mtvec, cpu.mepc, cpu.mcause), (0x44, 0x40, 8));

@@ -2,7 +2,7 @@
 use Rattle.std.proofs.Common.{◌≡◌, ℕ, zero, suc, ◌+◌, ◌*◌, List, [], ◌∷◌, set, get_or, refl, ap, ◌∙◌, sym, arith}
 use Rattle.std.proofs.Math.Seq.{sets}
 use Rattle.std.proofs.lemmas.List.{set-get_or}
-use Rattle.hv_cpu.specs.Regs.{Regs, spelled}
+use Rattle.hv_cpu.specs.Regs.{Regs}
 use Rattle.hv_block.specs.Block.{put_regs, regs_at}
 
 -- n words of S, from place i + k on

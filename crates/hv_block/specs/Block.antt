@@ -3,7 +3,7 @@
 -- its table or directory is, 67 the version of the block; 72, 73 and 74 are cause, address and access of the last fault.
 -- Every other word is the running machine's own. (The privileged architecture has no such block: it is this machine's
 -- own, after the virtual machine control blocks of hypervisors.)
-use Rattle.std.specs.Prelude.{ℕ, ◌*◌, ◌/◌, ◌%◌, ◌^◌, Bool, not, ◌&&◌, ◌||◌, ◌==◌, nat_lt, nat_le, if◌then◌else◌, List, take, Option, Some, None}
+use Rattle.std.specs.Prelude.{◌≢◌, ◌≤◌, ℕ, ◌*◌, ◌/◌, ◌%◌, ◌^◌, Bool, not, ◌&&◌, ◌||◌, ◌==◌, nat_lt, nat_le, if◌then◌else◌, List, take, Option, Some, None}
 use Rattle.std.specs.Int.RustNames.{bit_and}
 use Rattle.std.proofs.Math.Seq.{sets}
 use Rattle.hv_word.specs.Storage.{word_at, with_word}
@@ -136,3 +136,7 @@ access_word Fetch = 3
 -- the storage with a fault told in the words 72 to 74 of page g, and no other word changed
 abbrev pub with_fault : List ℕ → ℕ → ℕ → ℕ → ℕ → List ℕ
 with_fault S g cause address access = with_word (with_word (with_word S g 72 cause) g 73 address) g 74 access
+
+-- a word of a block's page that holds no register
+abbrev pub IsOther : ℕ → Type 0
+IsOther w = (49 ≤ w) × (w ≢ 64)

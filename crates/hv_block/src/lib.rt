@@ -68,7 +68,11 @@ fn is_sized(pages: u32, table: u32, version: u32, next: u32) -> bool
     ensures table { result ≡ true → table < 2 ^ 20 }
     ensures next { result ≡ true → next < pages }
 {
-    pages > 0 && pages <= 1 << 20 && table < 1 << 20 && next < pages && (version == 0 || version == 2)
+    pages > 0
+        && pages <= 1 << 20
+        && table < 1 << 20
+        && next < pages
+        && (version == 0 || version == 2)
 }
 
 // The registers in a block; none where a hart can't have them.
@@ -97,7 +101,11 @@ fn read_cpu(store: &Store, page: u32) -> Option<Cpu>
         3 => Mode::M,
         _ => return None,
     };
-    if mstatus & MSTATUS_MASK != mstatus || mstatus / 2048 % 4 == 2 || mtvec % 4 > 1 || mepc % 4 != 0 {
+    if mstatus & MSTATUS_MASK != mstatus
+        || mstatus / 2048 % 4 == 2
+        || mtvec % 4 > 1
+        || mepc % 4 != 0
+    {
         return None;
     }
     if medeleg & MEDELEG_MASK != medeleg || mideleg & MIDELEG_MASK != mideleg {

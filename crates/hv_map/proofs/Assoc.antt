@@ -83,6 +83,10 @@ parts S F j (s ∷ p) q items e =
       long = ap suc r.long;
     }
 
+-- a map goes by pages, table and version
+composed_alike : (T : List ℕ) (G : List Slot) (j n n' t t' v v' : ℕ) → n ≡ n' → t ≡ t' → v ≡ v' → composed T G j n t v ≡ composed T G j n' t' v'
+composed_alike T G j n n' t t' v v' p q r = λ i. composed T G j (p i) (q i) (r i)
+
 -- the child that T has where S has the child x: the same pages, table and version
 pub record Twin (o : Option Item) (x : Item) : Type 0 where
   pub twin : Item
@@ -143,9 +147,7 @@ module _ (k : ℕ) (F : List Slot) (S T : List ℕ) (below : ShutBelow k F) (sam
       let y : Item = t.twin in
       let level : j + k + 1 ≡ j + 1 + k = omega arith in
       let map_is : composed T G j x.pages x.table x.version ≡ composed T G j y.pages y.table y.version =
-      ap (λ (n : ℕ). composed T G j n x.table x.version) t.pages
-      ∙ ap (λ (n : ℕ). composed T G j y.pages n x.version) t.table
-      ∙ ap (λ (n : ℕ). composed T G j y.pages y.table n) t.version in
+      composed_alike T G j x.pages y.pages x.table y.table x.version y.version t.pages t.table t.version in
       let deeper : MapLike k F (composed S H (j + k) x.pages x.table x.version) (composed T G j y.pages y.table y.version) =
       subst (λ (M : List Slot). MapLike k F (composed S H (j + k) x.pages x.table x.version) M) map_is
       (composed_like k F S T below agree H G like j x.pages x.table x.version t.bound) in
@@ -156,7 +158,7 @@ module _ (k : ℕ) (F : List Slot) (S T : List ℕ) (below : ShutBelow k F) (sam
       subst (Twins H G j (s ∷ path)) b.whole record {
         twins = y ∷ r.twins;
         there = begins_from T G j s path y r.twins t.there r.there;
-        size = ap (λ (l : ℕ). length (along S (composed S H (j + k) x.pages x.table x.version) l b.rest)) level ∙ r.size;
+        size = subst (λ (l : ℕ). length (along S (composed S H (j + k) x.pages x.table x.version) l b.rest) ≡ length (along T (composed T G j y.pages y.table y.version) (j + 1) r.twins)) (sym level) r.size;
         like = subst (λ (l : ℕ). MapLike k F (along S (composed S H (j + k) x.pages x.table x.version) l b.rest) (along T (composed T G j y.pages y.table y.version) (j + 1) r.twins)) (sym level) r.like;
       }
 

@@ -2,6 +2,9 @@ pub mod Agree
 pub mod Assoc
 pub mod Handed
 pub mod Like
+pub mod Rows
+pub mod Running
 pub mod Slots
 pub mod Trails
 pub mod Views
+pub mod Words

@@ -1,12 +1,15 @@
 -- The laws of composed maps, as statements.
 use Rattle.std.specs.Prelude.{◌≡◌, ℕ, ◌+◌, ◌^◌, ◌≤◌, ◌⊎◌, List, ◌++◌, length, Option, Some, slice_get}
-use Rattle.hv_word.specs.Storage.{word_at}
+use Rattle.hv_word.specs.Storage.{page_count, word_at}
+use Rattle.hv_cpu.specs.Regs.{Regs}
 use Rattle.hv_store.specs.declared.access.Slot.{Slot}
 use Rattle.hv_store.specs.declared.access.Access.{Access}
 use Rattle.hv_store.specs.declared.access.Way.TheVariants.{Open, Shut}
-use Rattle.hv_store.specs.Access.{way_for}
+use Rattle.hv_store.specs.Access.{identity, way_for}
 use Rattle.hv_map.specs.Compose.{composed, EachTableWord}
-use Rattle.hv_map.specs.Chain.{map_of}
+use Rattle.hv_map.specs.Item.{Item}
+use Rattle.hv_map.specs.Chain.{along, depth_limit, map_of, pinned, running_path}
+use Rattle.hv_map.specs.Words.{Chained, EachChain, syllables}
 use Rattle.hv_map.specs.Seen.{seen}
 use Rattle.hv_map.specs.Trail.{trail_of}
 use Rattle.hv_map.specs.Carried.{Agree, MapLike, Opens, OpensSame, ShutAt, ShutBelow}
@@ -75,3 +78,26 @@ AssociativeLaw =
     × (map_of (seen S F) q ≡ Some G)
     × (length H ≡ length G)
     × MapLike (length p) F H G
+
+-- the map along a row of machines is the same for two storages that agree on the words of their tables, as far as each
+-- machine before can read them, and on what their blocks say
+abbrev pub AlongLaw : Type 0
+AlongLaw =
+    (S A : List ℕ) (F : List Slot) (j : ℕ) (items : List Item)
+    → EachChain (λ g w. word_at S g w ≡ word_at A g w) S F j items
+    → along S F j items ≡ along A F j items
+
+-- the machines on a path are each on its page of the one before, and are the machines of that path
+abbrev pub PinnedLaw : Type 0
+PinnedLaw =
+    (S path : List ℕ) (items : List Item)
+    → pinned S path ≡ Some items
+    → (syllables items ≡ path) × Chained S (identity (page_count S)) 0 items
+
+-- the path of the machine that a hart runs is one with a map, and is no longer than machines may be deep
+abbrev pub RunningLaw : Type 0
+RunningLaw =
+    (S : List ℕ) (r : Regs)
+    → (F : List Slot)
+    × (map_of S (running_path S r) ≡ Some F)
+    × (length (running_path S r) ≤ depth_limit)

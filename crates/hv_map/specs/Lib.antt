@@ -5,3 +5,4 @@ pub mod Item
 pub mod Laws
 pub mod Seen
 pub mod Trail
+pub mod Words

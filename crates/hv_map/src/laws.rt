@@ -1,6 +1,6 @@
 //! What always holds of composed maps. Each function here is empty: it states one law, which is proved.
 
-ghost use Rattle.hv_map.specs.Laws.{SizeLaw, TableLaw, OpensLaw, SameLaw, LevelLaw, CarryLaw, TrailLaw, AssociativeLaw};
+ghost use Rattle.hv_map.specs.Laws.{SizeLaw, TableLaw, OpensLaw, SameLaw, LevelLaw, CarryLaw, TrailLaw, AssociativeLaw, AlongLaw, PinnedLaw, RunningLaw};
 
 /// A child's map has a slot for each of its pages, and no other.
 pub fn map_has_each_page()
@@ -47,4 +47,20 @@ pub fn trail_is_map()
 /// further out.
 pub fn maps_associate()
     ensures { AssociativeLaw }
+{}
+
+/// The map along a row of machines depends on no words but those of their tables and directories, and on pages, table and
+/// version in their blocks.
+pub fn map_along_depends_on_its_words()
+    ensures { AlongLaw }
+{}
+
+/// The machines that are found on a path are the machines of that path, each on its page of the one before.
+pub fn machines_are_on_their_path()
+    ensures { PinnedLaw }
+{}
+
+/// The path of the machine that a hart runs is one with a map, and no longer than machines may be deep.
+pub fn running_path_has_a_map()
+    ensures { RunningLaw }
 {}

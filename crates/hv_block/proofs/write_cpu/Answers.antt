@@ -1,4 +1,4 @@
-use Rattle.std.proofs.Common.{◌≡◌, ℕ, ◌+◌, ◌*◌, ◌-◌, List, take, set, get_or, refl, ap, ◌∙◌}
+use Rattle.std.proofs.Common.{◌≡◌, ℕ, ◌+◌, ◌*◌, ◌-◌, List, take, set, get_or, ap, ◌∙◌}
 use Rattle.std.proofs.Math.Seq.{sets}
 use Rattle.hv_cpu.specs.Regs.{Regs, spelled}
 use Rattle.hv_block.specs.Block.{put_regs}

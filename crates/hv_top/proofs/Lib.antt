@@ -1,0 +1,5 @@
+pub mod Cutting
+pub mod NumberLists
+pub mod Numerals
+pub mod Parts
+pub mod Moves

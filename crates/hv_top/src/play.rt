@@ -8,7 +8,7 @@ ghost use Rattle.hv_top.specs.Run.{after_steps, bare_step, moves_of, noted, run_
 ghost use Rattle.hv_top.specs.Seen.{seen};
 
 use crate::row::LineRow;
-use hv_cpu::{Cpu, LINES_MASK};
+use hv_cpu::{Cpu, LINES_MASK, reset};
 use hv_csr::{pending, take_trap};
 use hv_exec::act;
 use hv_irq::Event;
@@ -36,7 +36,7 @@ impl Play {
     {
         Play {
             store,
-            cpu: Cpu::reset(),
+            cpu: reset(),
             count: 0,
             rows: Vec::new(alloc),
         }

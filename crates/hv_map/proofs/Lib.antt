@@ -1,7 +1,10 @@
 pub mod Agree
 pub mod Assoc
 pub mod Handed
+pub mod Levels
 pub mod Like
+pub mod Outwards
+pub mod Pins
 pub mod Rows
 pub mod Running
 pub mod Slots

@@ -45,7 +45,7 @@ module _ (F : List Slot) (m : ℕ) (outer : ℕ → Access → Way) (gives : Giv
   none_there : (q : ℕ) → m ≤ q → slice_get F q ≡ None
   none_there q h = let past : length F ≤ q = omega (arith, gives.size) in slice_get_past F q past
 
-  reading_gives : (u : ℕ) → reading F u ≡ outer_reading outer m u
+  pub reading_gives : (u : ℕ) → reading F u ≡ outer_reading outer m u
   reading_gives u = elim (cases_lt u m) [
     | inl h ↦
         let there = slot_there u h in

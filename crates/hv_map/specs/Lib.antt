@@ -1,8 +1,11 @@
 pub mod Carried
 pub mod Chain
 pub mod Compose
+pub mod Found
 pub mod Item
 pub mod Laws
+pub mod Levels
+pub mod Links
 pub mod Seen
 pub mod Trail
 pub mod Words

@@ -1,4 +1,25 @@
 //! The maps of machines inside machines: how a child's map is composed of its parent's, level by level.
 #![tactic(auto)]
 
+mod chain;
+mod following;
+mod found;
 pub mod laws;
+mod lookup;
+mod path;
+mod pinning;
+mod view;
+mod ways;
+
+pub use chain::{Chain, ChainItem};
+pub use following::trail;
+pub use found::{Found, child};
+pub use hv_store::{Slot, Way};
+pub use lookup::resolve;
+pub use path::{DEPTH, LEVELS, Path, Watch};
+pub use pinning::pin;
+pub use view::View;
+pub use ways::Trail;
+
+#[cfg(test)]
+mod tests;

@@ -1,0 +1,52 @@
+-- The maps along a chain, level by level, and how many table words it may take to find a page's slot in them.
+use Rattle.std.specs.Prelude.{ℕ, ◌*◌, ◌^◌, ◌<◌, Bool, not, ◌==◌, IfSome, nat_lt, if◌then◌else◌, List, reverse, take, count_by, Result, Ok, Err, Option, Some, None}
+use Rattle.hv_word.specs.Words.{field_of}
+use Rattle.hv_word.specs.Storage.{page_count}
+use Rattle.hv_store.specs.declared.access.Slot.{Slot}
+use Rattle.hv_store.specs.declared.access.Way.{Way}
+use Rattle.hv_store.specs.declared.access.Way.TheVariants.{Open, Shut}
+use Rattle.hv_map.specs.Item.{Item}
+use Rattle.hv_map.specs.Compose.{Looked, Named, Stopped}
+use Rattle.hv_map.specs.Chain.{map_along}
+use Rattle.hv_map.specs.Trail.{trail_pages}
+
+-- the map of the machine at level k
+unfoldable pub map_at : List ℕ → List Item → ℕ → List Slot
+map_at S items k = map_along S (take k items)
+
+-- whether the words of a machine's tables are found through a directory
+abbrev pub has_directory : Item → Bool
+has_directory x = x.version == 2
+
+abbrev pub has_table_alone : Item → Bool
+has_table_alone x = not (x.version == 2)
+
+-- One more than the most table words that are read for a page of the last of these machines. A table word and the page
+-- that it names are each found in the parent's map, and so is a directory word.
+abbrev pub reads_bound : List Item → ℕ
+reads_bound items = 2 ^ count_by has_table_alone items * 3 ^ count_by has_directory items
+
+unfoldable pub reads_at : List Item → ℕ → ℕ
+reads_at items k = reads_bound (take k items)
+
+-- a way opens a bare page below P, or is shut at a level below k, for a page and a word that have a byte address
+abbrev pub IsWayWithin : ℕ → ℕ → Way → Type 0
+IsWayWithin P k (Open g) = g < P
+IsWayWithin P k (Shut l c p w) = (l < k) × (p < 2 ^ 20) × IfSome w (λ n. n < 1024)
+
+abbrev pub IsWithin : ℕ → ℕ → Slot → Type 0
+IsWithin P k s = IsWayWithin P k s.read × IsWayWithin P k s.write × IsWayWithin P k s.fetch
+
+-- what a function that looks a word up answers
+abbrev pub looked : Result ℕ Way → Looked
+looked (Ok n) = Named n
+looked (Err way) = Stopped way
+
+-- the pages of the trail for reading of page i of the machine at level k
+unfoldable pub pages_from : List ℕ → List Item → ℕ → ℕ → List ℕ
+pages_from S items k i = trail_pages S (page_count S) (reverse (take k items)) i
+
+-- the page that an entry names, where the parent has m pages and it is one of them
+abbrev pub page_out : ℕ → Looked → Option ℕ
+page_out m (Named e) = if nat_lt (field_of e 12 20) m then Some (field_of e 12 20) else None
+page_out m (Stopped way) = None

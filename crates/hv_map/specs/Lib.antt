@@ -1,3 +1,4 @@
+pub mod Apart
 pub mod Carried
 pub mod Chain
 pub mod Compose

@@ -9,6 +9,8 @@ ghost use Rattle.std.proofs.Math.Seq.{sets};
 ghost use Rattle.hv_block.specs.Held.{held_of, fits_size};
 
 pub mod laws;
+#[cfg(test)]
+mod tests;
 
 use hv_cpu::{Cpu, MEDELEG_MASK, MIDELEG_MASK, MIE_MASK, MIP_MASK, MSTATUS_MASK, Mode, SATP_MASK};
 use hv_store::Store;

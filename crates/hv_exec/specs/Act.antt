@@ -1,6 +1,6 @@
 -- One instruction of a machine, or its trap. Each ask of the machine's storage has a function of its own, by what it
 -- answers; a refused ask refuses the whole.
-use Rattle.std.specs.Prelude.{ℕ, ◌/◌, Bool, false, List, Option, Some, None, Result, Ok, Err}
+use Rattle.std.specs.Prelude.{ℕ, ◌/◌, ◌%◌, ◌==◌, if◌then◌else◌, Bool, false, List, Option, Some, None, Result, Ok, Err}
 use Rattle.hv_word.specs.Words.{lane_of}
 use Rattle.hv_cpu.specs.Regs.{Regs}
 use Rattle.hv_isa.specs.declared.Instr.{Instr}
@@ -9,11 +9,11 @@ use Rattle.hv_csr.specs.Traps.{take_trap_of}
 use Rattle.hv_store.specs.declared.access.Access.TheVariants.{Read, Write, Fetch}
 use Rattle.hv_store.specs.declared.access.Refusal.{Refusal}
 use Rattle.hv_store.specs.declared.access.Slot.{Slot}
-use Rattle.hv_store.specs.Access.{got, put_in}
+use Rattle.hv_store.specs.Access.{got, put_in, cleared}
 use Rattle.hv_sv32.specs.Stop.{Walked, Found, TrapWith, RefusedBy}
 use Rattle.hv_sv32.specs.Walk.{walk_of}
 use Rattle.hv_exec.specs.declared.answer.Width.{Width}
-use Rattle.hv_exec.specs.Answer.{Answer, Next, Trap, Load, Store, advanced, given}
+use Rattle.hv_exec.specs.Answer.{Answer, Next, Trap, Load, Store, Enter, advanced, given}
 use Rattle.hv_exec.specs.Do.{do_of}
 use Rattle.hv_exec.specs.Memory.{lane_at, extended}
 
@@ -52,6 +52,22 @@ store_at S F r address width v (Found page offset) =
 store_at S F r address width v (TrapWith cause tval) = trapped S r cause tval
 store_at S F r address width v (RefusedBy e) = Refused e
 
+-- The machine whose block is in page `page` is to run from the next step on, with no fault told in its block. A page that
+-- isn't there is an access fault of a store. The page is named as this machine numbers its pages.
+abbrev pub entered : List ℕ → Regs → ℕ → ℕ → Option (Result (List ℕ) Refusal) → Acted
+entered S r value page None = trapped S r 7 value
+entered S r value page (Some (Err e)) = Refused e
+entered S r value page (Some (Ok T)) = Done T (advanced (record r { next = page }))
+
+-- page 0 has no block
+abbrev pub enter_page : List ℕ → List Slot → Regs → ℕ → ℕ → Acted
+enter_page S F r value page = if page == 0 then trapped S r 7 value else entered S r value page (cleared S F page)
+
+-- an address inside a page is a misaligned address of a store
+abbrev pub enter_at : List ℕ → List Slot → Regs → ℕ → Acted
+enter_at S F r value =
+    if value % 4096 == 0 then enter_page S F r value (value / 4096) else trapped S r 6 value
+
 -- an answer, carried out
 unfoldable pub carried_out : List ℕ → List Slot → Regs → Answer → Acted
 carried_out S F r (Next q) = Done S q
@@ -59,6 +75,7 @@ carried_out S F r (Trap cause tval) = trapped S r cause tval
 carried_out S F r (Load address width signed rd) =
     load_at S F r address width signed rd (walk_of S F r address Read)
 carried_out S F r (Store address width v) = store_at S F r address width v (walk_of S F r address Write)
+carried_out S F r (Enter value) = enter_at S F r value
 
 -- a word that is no instruction's is an illegal instruction
 unfoldable pub decoded : List ℕ → List Slot → ℕ → Regs → ℕ → Option Instr → Acted

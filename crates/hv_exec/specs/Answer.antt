@@ -4,7 +4,7 @@ use Rattle.hv_cpu.specs.Regs.{Regs, with_reg}
 use Rattle.hv_exec.specs.Arithmetic.{sum_of}
 use Rattle.hv_exec.specs.declared.answer.Width.{Width}
 use Rattle.hv_exec.specs.declared.answer.Task.{Task}
-use Rattle.hv_exec.specs.declared.answer.Task.TheVariants.{Done as DoneTask, Trap as TrapTask, Load as LoadTask, Store as StoreTask}
+use Rattle.hv_exec.specs.declared.answer.Task.TheVariants.{Done as DoneTask, Trap as TrapTask, Load as LoadTask, Store as StoreTask, Enter as EnterTask}
 
 pub data Answer : Type 0 where
   -- the registers after it, with the program counter already on the next instruction or on the jump's target
@@ -15,6 +15,8 @@ pub data Answer : Type 0 where
   Load : (address : ℕ) (width : Width) (signed : Bool) (rd : ℕ) → Answer
   -- the low bits of a value are to go to an aligned address
   Store : (address : ℕ) (width : Width) (value : ℕ) → Answer
+  -- the machine whose block is in the page at that address is to run
+  Enter : (value : ℕ) → Answer
 
 -- the registers on the next instruction
 unfoldable pub advanced : Regs → Regs
@@ -52,6 +54,7 @@ answered DoneTask r = Next r
 answered (TrapTask cause tval) r = Trap cause tval
 answered (LoadTask address width signed rd) r = Load address width signed rd
 answered (StoreTask address width value) r = Store address width value
+answered (EnterTask value) r = Enter value
 
 -- the registers change only where the instruction is done
 abbrev pub KeepsUnlessDone : Task → Regs → Regs → Type 0
@@ -59,6 +62,7 @@ KeepsUnlessDone DoneTask before after = Unit {0}
 KeepsUnlessDone (TrapTask _ _) before after = after ≡ before
 KeepsUnlessDone (LoadTask _ _ _ _) before after = after ≡ before
 KeepsUnlessDone (StoreTask _ _ _) before after = after ≡ before
+KeepsUnlessDone (EnterTask _) before after = after ≡ before
 
 -- the numbers in it are in range
 abbrev pub IsInRange : Task → Type 0
@@ -66,3 +70,4 @@ IsInRange DoneTask = Unit {0}
 IsInRange (TrapTask cause _) = cause < 16
 IsInRange (LoadTask _ _ _ rd) = rd < 32
 IsInRange (StoreTask _ _ _) = Unit {0}
+IsInRange (EnterTask _) = Unit {0}

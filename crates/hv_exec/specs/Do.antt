@@ -8,9 +8,9 @@ use Rattle.hv_csr.specs.Traps.{mret_of, sret_of}
 use Rattle.hv_exec.specs.declared.answer.Width.TheVariants.{Byte, Half, Word}
 use Rattle.hv_exec.specs.declared.system.Update.TheVariants.{Replace, Set, Clear}
 use Rattle.hv_exec.specs.Arithmetic.{sum_of, difference_of, is_less_signed, flag_of, shift_left, shift_right, shift_right_signed, even_of}
-use Rattle.hv_exec.specs.Answer.{Answer, Next, Trap, advanced, given, illegal_of, passed, jumped, branched}
+use Rattle.hv_exec.specs.Answer.{Answer, Next, Trap, advanced, given, passed, jumped, branched}
 use Rattle.hv_exec.specs.Memory.{loading, storing}
-use Rattle.hv_exec.specs.System.{csr_row, returned, may_wait, may_fence, called}
+use Rattle.hv_exec.specs.System.{csr_row, returned, may_wait, may_fence, called, entering}
 
 -- rd gets v
 abbrev pub gives : Instr → Regs → ℕ → Answer
@@ -74,8 +74,8 @@ row_answer Mret i w r h = returned (mret_of r) w
 row_answer Wfi i w r h = passed (may_wait r) w r
 -- translations aren't kept from one instruction to the next
 row_answer SfenceVma i w r h = passed (may_fence r) w r
--- no machine is entered
-row_answer Vmenter i w r h = illegal_of w
+-- rs1 names the machine to run by the address of the page of its block; the address isn't translated
+row_answer Vmenter i w r h = entering r (reg r i.rs1) w
 
 -- the answer of an instruction i with the word w, of hart h with the registers r
 unfoldable pub do_of : Instr → ℕ → Regs → ℕ → Answer

@@ -1,6 +1,7 @@
 pub mod Act
 pub mod Answer
 pub mod Arithmetic
+pub mod Changes
 pub mod Do
 pub mod Memory
 pub mod System

@@ -6,7 +6,7 @@ use Rattle.hv_isa.specs.declared.Instr.{Instr}
 use Rattle.hv_csr.specs.Access.{csr_read_of, csr_write_of}
 use Rattle.hv_exec.specs.declared.system.Update.{Update}
 use Rattle.hv_exec.specs.declared.system.Update.TheVariants.{Replace, Set, Clear}
-use Rattle.hv_exec.specs.Answer.{Answer, Next, Trap, given, illegal_of}
+use Rattle.hv_exec.specs.Answer.{Answer, Next, Trap, Enter, given, illegal_of}
 
 -- What a CSR row writes over the old value, if it writes. The rows that set or clear bits write nothing where their
 -- source field is zero, be it a register or a number (Unprivileged ISA, section 9.1).
@@ -51,3 +51,7 @@ may_fence r = r.mode == 3 || (r.mode == 1 && field_of r.mstatus 20 1 == 0)
 -- ECALL raises cause 8 from U, 9 from S and 11 from M (Privileged Architecture, table 3.6).
 abbrev pub called : Regs → Answer
 called r = Trap (8 + r.mode) 0
+
+-- VMENTER, which the manual leaves free, is illegal below M.
+unfoldable pub entering : Regs → ℕ → ℕ → Answer
+entering r value w = if r.mode == 3 then Enter value else illegal_of w

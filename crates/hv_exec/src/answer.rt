@@ -33,6 +33,9 @@ pub(crate) enum Task {
         width: Width,
         value: u32,
     },
+    Enter {
+        value: u32,
+    },
 }
 
 /// Goes on to the next instruction.

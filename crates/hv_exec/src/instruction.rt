@@ -1,10 +1,10 @@
 //! One instruction of a machine over its storage.
 
-ghost use Rattle.std.specs.Prelude.{◌≡◌, ◌<◌, OnErr, IfErr, length};
+ghost use Rattle.std.specs.Prelude.{◌≡◌, ◌≢◌, ◌<◌, OnErr, IfErr, length};
 ghost use Rattle.hv_isa.specs.Table.{NamesRegs};
 ghost use Rattle.hv_sv32.specs.Walk.{walk_of};
 ghost use Rattle.hv_exec.specs.Do.{do_of};
-ghost use Rattle.hv_exec.specs.Act.{act_of, acted, carried_out, load_at, store_at};
+ghost use Rattle.hv_exec.specs.Act.{act_of, acted, carried_out, load_at, store_at, enter_at};
 
 use crate::answer::{Task, Width, advance, give};
 use crate::memory::{extend, lane};
@@ -24,7 +24,7 @@ pub fn act<S: Space>(cpu: &mut Cpu, hart: u32, space: &mut S) -> Result<(), Refu
     requires room { 0 < S.room space.old }
     ensures acts { acted result (S.storage space.new) cpu.new
         ≡ act_of (S.storage space.old) (S.slots space.old) hart cpu.old }
-    ensures next { cpu.new.next ≡ 0 }
+    ensures next { cpu.new.next ≢ 0 → cpu.new.next < length (S.slots space.old) }
     ensures len { length (S.storage space.new) ≡ length (S.storage space.old) }
     ensures level { IfErr result (λ e. e.level < S.depth space.old) }
     ensures err_storage { OnErr result (S.storage space.new ≡ S.storage space.old) }
@@ -68,7 +68,7 @@ fn execute<S: Space>(
     requires room { 0 < S.room space.old }
     ensures acts { acted result (S.storage space.new) cpu.new
         ≡ carried_out (S.storage space.old) (S.slots space.old) cpu.old (do_of instr.now word cpu.old hart) }
-    ensures next { cpu.new.next ≡ 0 }
+    ensures next { cpu.new.next ≢ 0 → cpu.new.next < length (S.slots space.old) }
     ensures len { length (S.storage space.new) ≡ length (S.storage space.old) }
     ensures level { IfErr result (λ e. e.level < S.depth space.old) }
     ensures err_storage { OnErr result (S.storage space.new ≡ S.storage space.old) }
@@ -96,6 +96,7 @@ fn execute<S: Space>(
             width,
             value,
         } => store(cpu, space, address, width, value),
+        Task::Enter { value } => enter(cpu, space, value),
     }
 }
 
@@ -114,7 +115,7 @@ fn load<S: Space>(
     ensures acts { acted result (S.storage space.new) cpu.new
         ≡ load_at (S.storage space.old) (S.slots space.old) cpu.old address width signed rd
         (walk_of (S.storage space.old) (S.slots space.old) cpu.old address Access.Read) }
-    ensures next { cpu.new.next ≡ 0 }
+    ensures next { cpu.new.next ≢ 0 → cpu.new.next < length (S.slots space.old) }
     ensures len { length (S.storage space.new) ≡ length (S.storage space.old) }
     ensures level { IfErr result (λ e. e.level < S.depth space.old) }
     ensures err_storage { OnErr result (S.storage space.new ≡ S.storage space.old) }
@@ -154,7 +155,7 @@ fn store<S: Space>(
     ensures acts { acted result (S.storage space.new) cpu.new
         ≡ store_at (S.storage space.old) (S.slots space.old) cpu.old address width value
         (walk_of (S.storage space.old) (S.slots space.old) cpu.old address Access.Write) }
-    ensures next { cpu.new.next ≡ 0 }
+    ensures next { cpu.new.next ≢ 0 → cpu.new.next < length (S.slots space.old) }
     ensures len { length (S.storage space.new) ≡ length (S.storage space.old) }
     ensures level { IfErr result (λ e. e.level < S.depth space.old) }
     ensures err_storage { OnErr result (S.storage space.new ≡ S.storage space.old) }
@@ -176,6 +177,38 @@ fn store<S: Space>(
     let _pages = space.pages();
     let offset = (at % 4096) as u32;
     space.write((at / 4096) as u32, offset / 4, lane(width, offset), value)?;
+    advance(cpu);
+    Ok(())
+}
+
+// Makes the machine whose block is in the page at the address `value` the one to run.
+fn enter<S: Space>(cpu: &mut Cpu, space: &mut S, value: u32) -> Result<(), Refusal>
+    requires next { cpu.old.next ≡ 0 }
+    requires room { 0 < S.room space.old }
+    ensures acts { acted result (S.storage space.new) cpu.new
+        ≡ enter_at (S.storage space.old) (S.slots space.old) cpu.old value }
+    ensures next { cpu.new.next ≢ 0 → cpu.new.next < length (S.slots space.old) }
+    ensures len { length (S.storage space.new) ≡ length (S.storage space.old) }
+    ensures level { IfErr result (λ e. e.level < S.depth space.old) }
+    ensures err_storage { OnErr result (S.storage space.new ≡ S.storage space.old) }
+    ensures err_slots { OnErr result (S.slots space.new ≡ S.slots space.old) }
+    ensures err_cpu { OnErr result (cpu.new ≡ cpu.old) }
+    ensures depth { S.depth space.new ≡ S.depth space.old }
+    ensures place { S.place space.new ≡ S.place space.old }
+    ensures frame { S.frame space.new ≡ S.frame space.old }
+    ensures origin { S.origin space.new ≡ S.origin space.old }
+{
+    if value % 4096 != 0 {
+        take_trap(cpu, 6, false, value);
+        return Ok(());
+    }
+    let page = value / 4096;
+    if page == 0 || page >= space.pages() {
+        take_trap(cpu, 7, false, value);
+        return Ok(());
+    }
+    space.clear_fault(page)?;
+    cpu.next = Some(page);
     advance(cpu);
     Ok(())
 }

@@ -4,10 +4,14 @@
 mod answer;
 mod arithmetic;
 mod instruction;
+pub mod laws;
 mod memory;
 mod rows;
 mod system;
-#[cfg(test)]
-mod tests;
 
 pub use instruction::act;
+
+#[cfg(test)]
+mod entry_tests;
+#[cfg(test)]
+mod tests;

@@ -5,10 +5,10 @@ ghost use Rattle.hv_isa.specs.Table.{NamesRegs};
 ghost use Rattle.hv_exec.specs.Answer.{answered, KeepsUnlessDone, IsInRange};
 ghost use Rattle.hv_exec.specs.Do.{do_of};
 
-use crate::answer::{Task, Width, branch, give, illegal, jump, pass};
+use crate::answer::{Task, Width, branch, give, jump, pass};
 use crate::arithmetic::{even, flag, left, less_signed, right, right_signed};
 use crate::memory::{load, store};
-use crate::system::{Update, call, may_fence, may_wait, mret, sret, update_csr};
+use crate::system::{Update, call, enter, may_fence, may_wait, mret, sret, update_csr};
 use hv_cpu::Cpu;
 use hv_isa::{Instr, Op};
 
@@ -89,6 +89,6 @@ pub(crate) fn perform(cpu: &mut Cpu, hart: u32, word: u32, instr: &Instr) -> Tas
             let allowed = may_fence(cpu);
             pass(cpu, allowed, word)
         }
-        Op::Vmenter => illegal(word),
+        Op::Vmenter => enter(cpu, word, a),
     }
 }

@@ -3,7 +3,7 @@
 ghost use Rattle.std.specs.Prelude.{◌≡◌, ◌<◌};
 ghost use Rattle.hv_csr.specs.Traps.{mret_of, sret_of};
 ghost use Rattle.hv_exec.specs.Answer.{answered, KeepsUnlessDone, IsInRange};
-ghost use Rattle.hv_exec.specs.System.{new_value, csr_row, returned, may_wait, may_fence, called};
+ghost use Rattle.hv_exec.specs.System.{new_value, csr_row, returned, may_wait, may_fence, called, entering};
 
 use crate::answer::{Task, give, illegal};
 use hv_cpu::{Cpu, Mode};
@@ -120,4 +120,17 @@ pub(crate) fn call(cpu: &Cpu) -> Task
         Mode::M => 11,
     };
     Task::Trap { cause, tval: 0 }
+}
+
+/// VMENTER of the page at the address `value`, which is illegal below M.
+#[tactic(auto, unfolding(crate::specs::System::entering))]
+pub(crate) fn enter(cpu: &Cpu, word: u32, value: u32) -> Task
+    ensures does { answered result cpu.now ≡ entering cpu.now value word }
+    ensures keeps { KeepsUnlessDone result cpu.now cpu.now }
+    ensures range { IsInRange result }
+{
+    match cpu.mode {
+        Mode::M => Task::Enter { value },
+        Mode::S | Mode::U => illegal(word),
+    }
 }

@@ -1,15 +1,13 @@
 -- The pages of a trail, level by level.
-use Rattle.std.proofs.Common.{◌≡◌, ℕ, zero, suc, ◌+◌, ◌<◌, ◌≤◌, Bool, true, false, cond, List, [], ◌∷◌, ◌++◌, length, Option, Some, None, refl, ap, ap₂, ◌∙◌, sym, subst, arith, slice_get, get_or, take, set, append_assoc}
+use Rattle.std.proofs.Common.{◌≡◌, ℕ, ◌+◌, ◌<◌, Bool, true, false, cond, List, [], ◌∷◌, ◌++◌, length, Some, None, refl, ap, ◌∙◌, sym, subst, arith, slice_get, take, set, append_assoc}
 use Rattle.std.specs.Prelude.{reverse, nat_lt}
 use Rattle.std.proofs.lemmas.List.{take_more, take_more_set, length-take-le, reverse-append, reverse-reverse, length-reverse}
 use Rattle.std.proofs.lemmas.Option.{slice_get_within, get_or_from_slice_get, same_Some}
 use Rattle.std.proofs.Math.Seq.{take-length}
 use Rattle.hv_word.specs.Storage.{page_count}
 use Rattle.hv_word.specs.Words.{field_of}
-use Rattle.hv_store.specs.declared.access.Access.{Access}
 use Rattle.hv_store.specs.declared.access.Access.TheVariants.{Read}
 use Rattle.hv_store.specs.declared.access.Slot.{Slot}
-use Rattle.hv_store.specs.declared.access.Way.{Way}
 use Rattle.hv_store.specs.Access.{identity}
 use Rattle.hv_map.specs.Item.{Item}
 use Rattle.hv_map.specs.Compose.{Looked, Named, Stopped, entry_of, reading}

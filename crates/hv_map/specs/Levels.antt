@@ -6,13 +6,24 @@ use Rattle.hv_store.specs.declared.access.Slot.{Slot}
 use Rattle.hv_store.specs.declared.access.Way.{Way}
 use Rattle.hv_store.specs.declared.access.Way.TheVariants.{Open, Shut}
 use Rattle.hv_map.specs.Item.{Item}
-use Rattle.hv_map.specs.Compose.{Looked, Named, Stopped}
+use Rattle.hv_map.specs.Compose.{Looked, Named, Stopped, reading, table_of, entry_of, slot_of}
 use Rattle.hv_map.specs.Chain.{map_along}
 use Rattle.hv_map.specs.Trail.{trail_pages}
 
 -- the map of the machine at level k
 unfoldable pub map_at : List ℕ → List Item → ℕ → List Slot
 map_at S items k = map_along S (take k items)
+
+-- for page i of a child of the machine at level k, which x describes: the page of that machine where its table word is,
+-- the table word, and the page's slot
+abbrev pub table_at : List ℕ → List Item → ℕ → Item → ℕ → Looked
+table_at S items k x i = table_of S (reading (map_at S items k)) k x.table x.version i
+
+abbrev pub entry_at : List ℕ → List Item → ℕ → Item → ℕ → Looked
+entry_at S items k x i = entry_of S (reading (map_at S items k)) k x.table x.version i
+
+abbrev pub child_slot_at : List ℕ → List Item → ℕ → Item → ℕ → Slot
+child_slot_at S items k x i = slot_of (map_at S items k) k x.version i (entry_at S items k x i)
 
 -- whether the words of a machine's tables are found through a directory
 abbrev pub has_directory : Item → Bool

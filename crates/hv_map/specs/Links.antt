@@ -1,5 +1,5 @@
 -- What is told of one machine on a path.
-use Rattle.std.specs.Prelude.{ℕ, List, map}
+use Rattle.std.specs.Prelude.{ℕ}
 use Rattle.hv_store.specs.Frame.{Framed}
 use Rattle.hv_map.specs.Item.{Item}
 use Rattle.hv_map.specs.declared.chain.ChainItem.{ChainItem}

@@ -65,7 +65,8 @@ impl Model for Chain {
 
     ghost view = { λ c. take c.len c.links };
 
-    ghost invariant = { λ c. (c.len ≤ depth_limit) × (length c.links ≡ depth_limit) × All (λ x. x.pages ≤ 2 ^ 20) (take c.len c.links) };
+    ghost invariant = { λ c. (c.len ≤ depth_limit) × (length c.links ≡ depth_limit)
+        × All (λ x. x.pages ≤ 2 ^ 20) (take c.len c.links) };
 }
 
 impl Chain {

@@ -4,12 +4,11 @@ ghost use Rattle.std.specs.Prelude.{◌≡◌, ◌+◌, ◌<◌, ◌≤◌, ◌^
 ghost use Rattle.hv_word.specs.Storage.{page_count};
 ghost use Rattle.hv_store.specs.declared.access.Access.TheVariants.{Read};
 ghost use Rattle.hv_map.specs.Chain.{map_along};
-ghost use Rattle.hv_map.specs.Compose.{reading, entry_of};
-ghost use Rattle.hv_map.specs.Levels.{map_at, pages_from, page_out};
+ghost use Rattle.hv_map.specs.Levels.{map_at, entry_at, pages_from, page_out};
 ghost use Rattle.hv_map.specs.Trail.{trail, trail_pages};
 
 use crate::chain::{Chain, Link};
-use crate::lookup::{entry_at, pages_at, slot_of};
+use crate::lookup::{entry_at, page_slot, pages_at};
 use crate::path::LEVELS;
 use crate::ways::Trail;
 use hv_store::{Steps, Store};
@@ -26,13 +25,14 @@ pub fn trail(store: &Store, chain: &Chain, page: u32) -> Trail
     ensures rest { (k : ℕ) → result.len ≤ k → slice_index result.pages k ≡ 0 }
     ensures end { result.end ≡ trail store.now (page_count store.now) (reverse chain.now) page Read }
 {
+    // There are fewer machines than places.
     let _level = chain.len();
     let mut pages = [0; LEVELS];
     let len = pages_by::<Brand>(store, chain, page, &mut pages, Blank::new(1));
     Trail {
         len: len as u32,
         pages,
-        end: slot_of(store, chain, page).read,
+        end: page_slot(store, chain, page).read,
     }
 }
 
@@ -55,7 +55,8 @@ fn pages_by<L: Ledger>(
     ensures rest { (k : ℕ) → result ≤ k → slice_index pages.new k ≡ slice_index pages.old k }
 {
     let mut steps = Steps::<L>::new(blank);
-    let _count = chain.pages(store);
+    // The page is below 2^20.
+    let _pages = chain.pages(store);
     pages_into(store, chain, chain.len(), page, pages, 0, &mut steps)
 }
 
@@ -99,7 +100,7 @@ fn page_out<L: Ledger>(
 ) -> Option<u32>
     requires level { level < length chain.now }
     requires page { page < 2 ^ 20 }
-    ensures page { result ≡ page_out (length (map_at store.now chain.now level)) (entry_of store.now (reading (map_at store.now chain.now level)) level child.table child.version page) }
+    ensures page { result ≡ page_out (length (map_at store.now chain.now level)) (entry_at store.now chain.now level child page) }
     ensures bound { IfSome result (λ outer. outer < 2 ^ 20) }
 {
     let entry = entry_at(store, chain, level, child, page, steps).ok()?;

@@ -6,7 +6,7 @@ ghost use Rattle.hv_map.specs.Chain.{depth_limit, map_along};
 ghost use Rattle.hv_map.specs.Found.{found_on, item_of, IsFoundWithin};
 
 use crate::chain::{Chain, Link};
-use crate::lookup::slot_of;
+use crate::lookup::page_slot;
 use crate::ways::refusal;
 use hv_block::{Block, read_block};
 use hv_store::{Access, Refusal, Store, Way};
@@ -28,7 +28,7 @@ pub fn child(store: &Store, chain: &Chain, page: u32) -> Found
     ensures found { Some result ≡ found_on store.now (map_along store.now chain.now) page }
     ensures within { IsFoundWithin (page_count store.now) (length chain.now) result }
 {
-    match slot_of(store, chain, page).write {
+    match page_slot(store, chain, page).write {
         Way::Open { host } => match read_block(store, host) {
             Some(block) => Found::Child { host, block },
             None => Found::Malformed { host },

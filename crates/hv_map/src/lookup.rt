@@ -3,8 +3,8 @@
 ghost use Rattle.std.specs.Prelude.{◌≡◌, ◌≢◌, ◌+◌, ◌*◌, ◌/◌, ◌<◌, ◌≤◌, ◌^◌, ◌==◌, if◌then◌else◌, Some, IfErr, IfOk, IfSome, length, slice_get};
 ghost use Rattle.hv_word.specs.Storage.{page_count};
 ghost use Rattle.hv_map.specs.Chain.{map_along};
-ghost use Rattle.hv_map.specs.Compose.{reading, present, look, table_of, entry_of, every, granted, slot_of};
-ghost use Rattle.hv_map.specs.Levels.{map_at, reads_at, reads_bound, looked, IsWayWithin, IsWithin};
+ghost use Rattle.hv_map.specs.Compose.{reading, present, look, every, granted};
+ghost use Rattle.hv_map.specs.Levels.{map_at, table_at, entry_at, child_slot_at, reads_at, reads_bound, looked, IsWayWithin, IsWithin};
 ghost use Rattle.hv_store.specs.declared.access.Way.TheVariants.{Shut};
 
 use crate::chain::{Chain, Link};
@@ -38,15 +38,15 @@ pub fn resolve<L: Ledger>(store: &Store, chain: &Chain, page: u32, steps: &mut S
 }
 
 // The same where no steps are counted.
-pub(crate) fn slot_of(store: &Store, chain: &Chain, page: u32) -> Slot
+pub(crate) fn page_slot(store: &Store, chain: &Chain, page: u32) -> Slot
     requires { page < length (map_along store.now chain.now) }
     ensures slot { slice_get (map_along store.now chain.now) page ≡ Some result }
     ensures within { IsWithin (page_count store.now) (length chain.now) result }
 {
-    slot_from::<Brand>(store, chain, page, Blank::new(1))
+    page_slot_by::<Brand>(store, chain, page, Blank::new(1))
 }
 
-fn slot_from<L: Ledger>(store: &Store, chain: &Chain, page: u32, blank: Blank) -> Slot
+fn page_slot_by<L: Ledger>(store: &Store, chain: &Chain, page: u32, blank: Blank) -> Slot
     requires page { page < length (map_along store.now chain.now) }
     requires name { blank.name ≡ L.name }
     requires parts { blank.parts ≡ L.parts }
@@ -128,9 +128,10 @@ fn slot_of_child<L: Ledger>(
 ) -> Slot
     requires level { level < length chain.now }
     requires page { page < 2 ^ 20 }
-    ensures slot { result ≡ slot_of (map_at store.now chain.now level) level child.version page (entry_of store.now (reading (map_at store.now chain.now level)) level child.table child.version page) }
+    ensures slot { result ≡ child_slot_at store.now chain.now level child page }
     ensures within { IsWithin (page_count store.now) (length chain.now) result }
-    ensures ticks { steps.new < steps.old + (if child.version == 2 then 3 * reads_at chain.now level else 2 * reads_at chain.now level) }
+    ensures ticks { steps.new < steps.old
+        + (if child.version == 2 then 3 * reads_at chain.now level else 2 * reads_at chain.now level) }
 {
     match entry_at(store, chain, level, child, page, steps) {
         Err(way) => every(way),
@@ -159,9 +160,10 @@ pub(crate) fn entry_at<L: Ledger>(
 ) -> Result<u32, Way>
     requires level { level < length chain.now }
     requires page { page < 2 ^ 20 }
-    ensures entry { looked result ≡ entry_of store.now (reading (map_at store.now chain.now level)) level child.table child.version page }
+    ensures entry { looked result ≡ entry_at store.now chain.now level child page }
     ensures within { IfErr result (λ way. IsWayWithin (page_count store.now) (length chain.now) way) }
-    ensures ticks { steps.new ≤ steps.old + (if child.version == 2 then 2 * reads_at chain.now level else reads_at chain.now level) }
+    ensures ticks { steps.new ≤ steps.old
+        + (if child.version == 2 then 2 * reads_at chain.now level else reads_at chain.now level) }
 {
     let table = table_at(store, chain, level, child, page, steps)?;
     look_at(store, chain, level, page, table, page % 1024, steps)
@@ -179,7 +181,7 @@ fn table_at<L: Ledger>(
 ) -> Result<u64, Way>
     requires level { level < length chain.now }
     requires page { page < 2 ^ 20 }
-    ensures table { looked result ≡ table_of store.now (reading (map_at store.now chain.now level)) level child.table child.version page }
+    ensures table { looked result ≡ table_at store.now chain.now level child page }
     ensures within { IfErr result (λ way. IsWayWithin (page_count store.now) (length chain.now) way) }
     ensures ticks { steps.new ≤ steps.old + (if child.version == 2 then reads_at chain.now level else 0) }
 {
@@ -222,6 +224,7 @@ fn look_at<L: Ledger>(
     };
     match slot.read {
         Way::Open { host } => {
+            // The store has few enough pages for the place to fit.
             let _pages = store.pages();
             present(level, page, store.map_word(1024 * host + word, steps))
         }

@@ -214,7 +214,7 @@ fn a_trail_goes_outwards(rt: HostRuntime) -> Result<(), Fail> {
     assert_eq!(rt; chain.pages(&store), 2);
     let whole = trail(&store, &chain, 1);
     assert_eq!(rt; (whole.len, whole.end), (3, open(5)));
-    assert_eq!(rt; whole.pages, [1, 1, 5, 0, 0, 0, 0, 0, 0]);
+    assert_eq!(rt; &whole.pages[..4], [1, 1, 5, 0].as_slice());
     put(&mut store, &[(2, 1, 0x9001)]);
     assert_eq!(rt; chain.pages(&store), 2);
     let hidden = trail(&store, &chain, 1);

@@ -1,7 +1,7 @@
 //! The storage as a machine sees it.
 
 use crate::chain::Chain;
-use crate::lookup::slot_of;
+use crate::lookup::page_slot;
 use crate::ways::{refusal, way_for};
 use hv_block::{block_word, write_fault};
 use hv_store::{Access, Refusal, Space, Store, Way};
@@ -38,7 +38,7 @@ impl Space for View<'_> {
     }
 
     fn read(&mut self, page: u32, word: u32, access: Access) -> Result<u32, Refusal> {
-        let slot = slot_of(self.store, self.chain, page);
+        let slot = page_slot(self.store, self.chain, page);
         match way_for(slot, access) {
             Way::Open { host } => Ok(block_word(self.store, host, word)),
             Way::Shut {
@@ -51,9 +51,10 @@ impl Space for View<'_> {
     }
 
     fn write(&mut self, page: u32, word: u32, lane: Lane, value: u32) -> Result<(), Refusal> {
-        match slot_of(self.store, self.chain, page).write {
+        match page_slot(self.store, self.chain, page).write {
             Way::Open { host } => {
                 let old = block_word(self.store, host, word);
+                // The store has few enough pages for the place to fit.
                 let _pages = self.store.pages();
                 self.store
                     .put(1024 * host + word, lane_put(old, lane, value));
@@ -69,7 +70,7 @@ impl Space for View<'_> {
     }
 
     fn clear_fault(&mut self, page: u32) -> Result<(), Refusal> {
-        match slot_of(self.store, self.chain, page).write {
+        match page_slot(self.store, self.chain, page).write {
             Way::Open { host } => {
                 write_fault(self.store, host, 0, 0, 0);
                 Ok(())

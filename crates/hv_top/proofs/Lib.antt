@@ -2,4 +2,5 @@ pub mod Cutting
 pub mod NumberLists
 pub mod Numerals
 pub mod Parts
-pub mod Moves
+pub mod Starts
+pub mod Reports

@@ -3,6 +3,4 @@ pub mod Job
 pub mod Numbers
 pub mod Output
 pub mod Report
-pub mod Run
-pub mod Seen
 pub mod Answer

@@ -1,11 +1,14 @@
 -- What is written for an input, and when each status comes.
-use Rattle.std.specs.Prelude.{◌≡◌, ◌≢◌, ◌⊎◌, ℕ, Bool, false, List, [], ◌∷◌, Option, Some, None, codes}
+use Rattle.std.specs.Prelude.{◌≡◌, ◌≢◌, ◌⊎◌, ℕ, Bool, false, if◌then◌else◌, List, [], ◌∷◌, Option, Some, None, codes}
 use Rattle.std.specs.Str.{bytes_eq}
-use Rattle.hv_cpu.specs.Regs.{spelled}
+use Rattle.hv_cpu.specs.Regs.{reset_regs}
+use Rattle.hv_nest.specs.State.{State}
+use Rattle.hv_nest.specs.Move.{Move, last_of}
+use Rattle.hv_run.specs.Record.{WatchOf, record_of, schedule}
+use Rattle.hv_run.specs.Text.{line}
 use Rattle.hv_top.specs.declared.job.Job.{Job}
 use Rattle.hv_top.specs.Job.{job_of}
-use Rattle.hv_top.specs.Run.{Play, play_of}
-use Rattle.hv_top.specs.Report.{line, report_of}
+use Rattle.hv_top.specs.Report.{report_of}
 use Rattle.hv_top.specs.declared.TheConstants.{DONE, REFUSED, WRITE_FAULT, NO_MEMORY}
 
 -- the report of a text, or the line that refuses it
@@ -21,12 +24,20 @@ text_of (Refusal text) = text
 abbrev pub refusal : List ℕ
 refusal = line (codes "refused line 0: form")
 
-abbrev pub told : Bool → Play → List ℕ
-told watched p = report_of watched p.count (spelled p.state.hart) p.rows
+-- the bare machine at the start of a job: its storage, and one hart, which is as after a reset
+abbrev pub start_of : List ℕ → State
+start_of storage = record { storage = storage; harts = reset_regs ∷ [] }
 
--- the report on a job, which is run to the end of its events
+-- the bare machine on its one hart, where it is watched
+abbrev pub watching : Bool → List WatchOf
+watching watched = if watched then record { hart = 0; path = [] } ∷ [] else []
+
+abbrev pub told : State → List Move → List WatchOf → List ℕ
+told start moves watches = report_of (record_of start moves watches) (last_of start moves)
+
+-- the report on a job, which is played to the end of its events
 abbrev pub report_on : Job → List ℕ
-report_on job = told job.watched (play_of job.store job.recording)
+report_on job = told (start_of job.store) (schedule job.recording) (watching job.watched)
 
 abbrev pub output_for : Option Job → Output
 output_for (Some job) = Report (report_on job)

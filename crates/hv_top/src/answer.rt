@@ -1,13 +1,17 @@
 //! What an input is answered.
 
-ghost use Rattle.std.specs.Prelude.{◌≡◌, IfOk};
+ghost use Rattle.std.specs.Prelude.{◌≡◌, ◌<◌, All, IfOk};
+ghost use Rattle.hv_irq.specs.Events.{hart_of};
+ghost use Rattle.hv_run.specs.Stands.{watches_of};
 ghost use Rattle.hv_top.specs.Answer.{output_in};
-ghost use Rattle.hv_top.specs.Output.{output_of, report_on};
+ghost use Rattle.hv_top.specs.Output.{output_of, report_on, watching};
 
 use crate::job::Job;
 use crate::parse::parse;
-use crate::play::Play;
 use crate::report::report;
+use hv_map::{Path, Watch};
+use hv_nest::{Harts, Plain};
+use hv_run::play;
 use std::alloc::{AllocError, Global};
 
 /// A text to be written: the report on an input, or the line that refuses it.
@@ -36,9 +40,9 @@ pub fn answer_to(alloc: Global, input: &[u8]) -> Result<Answer, AllocError>
     })
 }
 
-// Runs the job, and tells what happened.
-#[tactic(auto, unfolding(crate::specs::Run::play_of))]
+// Plays the job on one hart, which all of its events name, and tells what happened.
 fn told(alloc: Global, job: Job) -> Result<Vec<u8>, AllocError>
+    requires { All (λ event. hart_of event < 1) job.recording }
     ensures { IfOk result (λ text. text.items ≡ report_on job) }
 {
     let Job {
@@ -46,7 +50,22 @@ fn told(alloc: Global, job: Job) -> Result<Vec<u8>, AllocError>
         recording,
         watched,
     } = job;
-    let mut play = Play::new(alloc, store);
-    play.run(recording.events())?;
-    report(alloc, watched, play.count, &play.cpu.words(), &play.rows)
+    let watches = watches(alloc, watched)?;
+    let mut plain = Plain::new(store, Harts::new(1));
+    let played = play(alloc, &mut plain, recording.events(), &watches)?;
+    report(alloc, &mut plain, &played)
+}
+
+// The watch of the bare machine, where it is watched.
+fn watches(alloc: Global, watched: bool) -> Result<Vec<Watch>, AllocError>
+    ensures { IfOk result (λ watches. watches_of watches.items ≡ watching watched) }
+{
+    let mut watches = Vec::new(alloc);
+    if watched {
+        watches.push(Watch {
+            hart: 0,
+            path: Path::new(),
+        })?;
+    }
+    Ok(watches)
 }

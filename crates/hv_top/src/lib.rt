@@ -13,9 +13,7 @@ mod cuts;
 mod job;
 mod numbers;
 mod parse;
-mod play;
 mod report;
-mod row;
 #[cfg(test)]
 mod tests;
 
@@ -111,7 +109,7 @@ fn is_run(words: &[String]) -> bool
 }
 
 /// `virtualize` over a source that never fails. Reading never fails, and where no call of the sink was made to fail and
-/// it has room for the output, writing doesn't either.
+/// it has room for the output, writing doesn't either: the input is answered, unless memory is wanting.
 pub fn virtualize_honest(
     alloc: Global,
     words: &[String],
@@ -120,8 +118,14 @@ pub fn virtualize_honest(
 ) -> u8
     ensures done { result ≡ DONE → IsReportAnd (output_of source.old) (λ text. sink.new.held ≡ sink.old.held ++ text) }
     ensures refused { result ≡ REFUSED → IsRefusalAnd (output_of source.old) (λ text. sink.new.held ≡ sink.old.held ++ text) }
+    ensures usage { (result ≡ USAGE) ↔ (is_command (map string_bytes words.now) ≡ false) }
+    ensures long { result ≡ TOO_LONG → INPUT_LIMIT < length source.old }
     ensures read { result ≢ READ_FAULT }
     ensures write { sink.old.fails ≡ [] → length sink.old.held + length (text_of (output_of source.old)) < sink.old.room → result ≢ WRITE_FAULT }
+    ensures complete { is_command (map string_bytes words.now) ≡ true → length source.old ≤ INPUT_LIMIT →
+        sink.old.fails ≡ [] → length sink.old.held + length (text_of (output_of source.old)) < sink.old.room →
+        IsAnswer (output_of source.old) result }
+    ensures statuses { (result ≤ NO_MEMORY) × (result ≢ 1) }
 {
     virtualize(alloc, words, source, sink)
 }

@@ -1,184 +1,148 @@
 //! The text of a report.
 
-ghost use Rattle.std.specs.Prelude.{◌≡◌, ◌<◌, ◌++◌, IfOk, OnOk};
+ghost use Rattle.std.specs.Prelude.{◌≡◌, ◌++◌, IfOk, OnOk};
 ghost use Rattle.std.specs.Fmt.{decimal};
-ghost use Rattle.hv_top.specs.Report.{change_line, changes_text, head_text, hex_digit as hex_digit_of, hex8, machine_lines as machine_lines_of, register_lines as register_lines_of, report_of, row_text, state_line, watch_text, words_text};
+ghost use Rattle.hv_top.specs.Report.{answer_text, faults_text, hart_line, head_line, path_text, report_of, syllables_text, watch_line, watch_text, watches_text};
 
-use crate::row::LineRow;
-use hv_word::field;
+use hv_map::Path;
+use hv_nest::Nested;
+use hv_run::{FaultRow, Record, WatchRow, fault_line, machine_lines};
 use std::alloc::{AllocError, Global};
 
-/// The report on one bare hart after `count` steps, by its 50 words and the changes of its lines.
+/// The report on a play of the bare machine with one hart, which the engine has made to its end. The state stays.
 #[tactic(auto, unfolding(crate::specs::Report::report_of))]
-pub fn report(
+pub fn report<N: Nested>(
     alloc: Global,
-    watched: bool,
-    count: u64,
-    words: &[u32; 50],
-    rows: &[LineRow],
+    nested: &mut N,
+    played: &Record,
 ) -> Result<Vec<u8>, AllocError>
-    ensures { IfOk result (λ text. text.items ≡ report_of watched count words.now rows.now) }
+    ensures text { IfOk result (λ text. text.items ≡ report_of played.now (N.state nested.old)) }
+    ensures same { N.state nested.new ≡ N.state nested.old }
 {
+    let _harts = nested.harts();
+    let running = nested.running(0);
+    let words = nested.cpu(0).words();
     let mut out = Vec::new(alloc);
-    put_head(alloc, &mut out, count)?;
-    if !watched {
-        return Ok(out);
-    }
-    put_watch(alloc, &mut out, count, words, rows)?;
+    put_head(alloc, &mut out, played)?;
+    put_hart(alloc, &mut out, 0, &running)?;
+    put_watches(alloc, &mut out, &words, played.watches.as_slice())?;
+    put_faults(alloc, &mut out, played.kept.as_slice())?;
     Ok(out)
 }
 
-// Appends how many steps were run, and that the bare machine runs at the end.
-fn put_head(alloc: Global, out: &mut Vec<u8>, count: u64) -> Result<(), AllocError>
-    ensures { OnOk result (out.new.items ≡ out.old.items ++ head_text count) }
+// Appends how many steps were made, and how many of them were faults and recalls.
+fn put_head(alloc: Global, out: &mut Vec<u8>, played: &Record) -> Result<(), AllocError>
+    ensures { OnOk result (out.new.items ≡ out.old.items ++ head_line played.now) }
 {
-    put(out, b"ran ")?;
-    put_decimal(alloc, out, count)?;
-    put(out, b" faults 0 recalls 0\nhart 0 -\n")
+    put_number(alloc, out, b"ran ", played.steps)?;
+    put_number(alloc, out, b" faults ", played.faults)?;
+    put_number(alloc, out, b" recalls ", played.recalls)?;
+    put(out, b"\n")
 }
 
-// Appends the watch of the bare machine.
+// Appends the line of a hart and of the machine that it runs.
+fn put_hart(alloc: Global, out: &mut Vec<u8>, hart: u32, running: &Path) -> Result<(), AllocError>
+    ensures { OnOk result (out.new.items ≡ out.old.items ++ hart_line hart running.now) }
+{
+    put_number(alloc, out, b"hart ", u64::from(hart))?;
+    put(out, b" ")?;
+    put_path(alloc, out, running)?;
+    put(out, b"\n")
+}
+
+// Appends each watch of the bare machine, whose hart has these 50 words.
+#[tactic(auto, unfolding(crate::specs::Report::watches_text))]
+fn put_watches(
+    alloc: Global,
+    out: &mut Vec<u8>,
+    words: &[u32; 50],
+    watches: &[WatchRow],
+) -> Result<(), AllocError>
+    ensures { OnOk result (out.new.items ≡ out.old.items ++ watches_text words.now watches.now) }
+{
+    for watch in watches {
+        put_watch(alloc, out, words, watch)?;
+    }
+    Ok(())
+}
+
+// Appends one watch of the bare machine.
 fn put_watch(
     alloc: Global,
     out: &mut Vec<u8>,
-    count: u64,
     words: &[u32; 50],
-    rows: &[LineRow],
+    watch: &WatchRow,
 ) -> Result<(), AllocError>
-    ensures { OnOk result (out.new.items ≡ out.old.items ++ watch_text count words.now rows.now) }
+    ensures { OnOk result (out.new.items ≡ out.old.items ++ watch_text words.now watch.now) }
 {
-    put(out, b"watch 0 - one=yes apart=yes touched=no\n")?;
-    let lines = machine_lines(alloc, count, words, rows)?;
-    put(out, &lines)?;
-    Ok(())
+    put_watch_line(alloc, out, watch)?;
+    let lines = machine_lines(alloc, watch.count, words, watch.lines.as_slice())?;
+    put(out, &lines)
 }
 
-/// The lines of a watched machine after `count` steps: its 50 words, and the changes of its lines from outside.
-#[tactic(auto, unfolding(crate::specs::Report::machine_lines))]
-fn machine_lines(
-    alloc: Global,
-    count: u64,
-    words: &[u32; 50],
-    rows: &[LineRow],
-) -> Result<Vec<u8>, AllocError>
-    ensures { IfOk result (λ text. text.items ≡ machine_lines_of count words.now rows.now) }
+// Appends what holds of a watched machine at the start and over the play.
+fn put_watch_line(alloc: Global, out: &mut Vec<u8>, watch: &WatchRow) -> Result<(), AllocError>
+    ensures { OnOk result (out.new.items ≡ out.old.items ++ watch_line watch.now) }
 {
-    let mut out = Vec::new(alloc);
-    put(&mut out, b"count ")?;
-    put_decimal(alloc, &mut out, count)?;
-    put(&mut out, b"\n")?;
-    let registers = register_lines(alloc, words)?;
-    put(&mut out, &registers)?;
-    put_changes(alloc, &mut out, rows)?;
-    Ok(out)
-}
-
-/// The lines of a hart's 50 words.
-#[tactic(auto, unfolding(crate::specs::Report::register_lines))]
-fn register_lines(alloc: Global, words: &[u32; 50]) -> Result<Vec<u8>, AllocError>
-    ensures { IfOk result (λ text. text.items ≡ register_lines_of words.now) }
-{
-    let mut out = Vec::new(alloc);
-    put_state(alloc, &mut out, words[0], words[32], words[49])?;
-    put_row(&mut out, b"x0 00000000", &words[1..8])?;
-    put_row(&mut out, b"x8", &words[8..16])?;
-    put_row(&mut out, b"x16", &words[16..24])?;
-    put_row(&mut out, b"x24", &words[24..32])?;
-    put_row(&mut out, b"m", &words[33..43])?;
-    put_row(&mut out, b"s", &words[43..49])?;
-    Ok(out)
-}
-
-// Appends the line of the program counter, the mode and the page of the machine that is run.
-fn put_state(
-    alloc: Global,
-    out: &mut Vec<u8>,
-    pc: u32,
-    mode: u32,
-    next: u32,
-) -> Result<(), AllocError>
-    ensures { OnOk result (out.new.items ≡ out.old.items ++ state_line pc mode next) }
-{
-    put(out, b"pc ")?;
-    put_hex8(out, pc)?;
-    put(out, b" mode ")?;
-    put_decimal(alloc, out, u64::from(mode))?;
-    put(out, b" next ")?;
-    put_decimal(alloc, out, u64::from(next))?;
+    put_number(alloc, out, b"watch ", u64::from(watch.hart))?;
+    put(out, b" ")?;
+    put_path(alloc, out, &watch.path)?;
+    put_answer(out, b" one=", watch.one)?;
+    put_answer(out, b" apart=", watch.apart)?;
+    put_answer(out, b" touched=", watch.touched)?;
     put(out, b"\n")
 }
 
-// Appends a label, the words, each behind a space, and a line feed.
-fn put_row(out: &mut Vec<u8>, label: &[u8], words: &[u32]) -> Result<(), AllocError>
-    ensures { OnOk result (out.new.items ≡ out.old.items ++ row_text label.now words.now) }
+// Appends the line of each fault.
+#[tactic(auto, unfolding(crate::specs::Report::faults_text))]
+fn put_faults(alloc: Global, out: &mut Vec<u8>, faults: &[FaultRow]) -> Result<(), AllocError>
+    ensures { OnOk result (out.new.items ≡ out.old.items ++ faults_text faults.now) }
+{
+    for fault in faults {
+        let line = fault_line(alloc, fault)?;
+        put(out, &line)?;
+    }
+    Ok(())
+}
+
+// Appends a path.
+fn put_path(alloc: Global, out: &mut Vec<u8>, path: &Path) -> Result<(), AllocError>
+    ensures { OnOk result (out.new.items ≡ out.old.items ++ path_text path.now) }
+{
+    match path.as_slice().split_first() {
+        Some((syllable, path)) => {
+            put_decimal(alloc, out, u64::from(*syllable))?;
+            put_syllables(alloc, out, path)
+        }
+        None => put(out, b"-"),
+    }
+}
+
+// Appends each syllable behind a dot.
+#[tactic(auto, unfolding(crate::specs::Report::syllables_text))]
+fn put_syllables(alloc: Global, out: &mut Vec<u8>, path: &[u32]) -> Result<(), AllocError>
+    ensures { OnOk result (out.new.items ≡ out.old.items ++ syllables_text path.now) }
+{
+    for syllable in path {
+        put_number(alloc, out, b".", u64::from(*syllable))?;
+    }
+    Ok(())
+}
+
+// Appends a label and an answer.
+fn put_answer(out: &mut Vec<u8>, label: &[u8], answer: bool) -> Result<(), AllocError>
+    ensures { OnOk result (out.new.items ≡ out.old.items ++ label.now ++ answer_text answer) }
 {
     put(out, label)?;
-    put_words(out, words)?;
-    put(out, b"\n")
+    put(out, if answer { b"yes" } else { b"no" })
 }
 
-// Appends the words, each behind a space.
-#[tactic(auto, unfolding(crate::specs::Report::words_text))]
-fn put_words(out: &mut Vec<u8>, words: &[u32]) -> Result<(), AllocError>
-    ensures { OnOk result (out.new.items ≡ out.old.items ++ words_text words.now) }
+// Appends a label and a number in decimal digits.
+fn put_number(alloc: Global, out: &mut Vec<u8>, label: &[u8], number: u64) -> Result<(), AllocError>
+    ensures { OnOk result (out.new.items ≡ out.old.items ++ label.now ++ decimal number) }
 {
-    for word in words {
-        put(out, b" ")?;
-        put_hex8(out, *word)?;
-    }
-    Ok(())
-}
-
-// Appends a line for each change.
-#[tactic(auto, unfolding(crate::specs::Report::changes_text))]
-fn put_changes(alloc: Global, out: &mut Vec<u8>, rows: &[LineRow]) -> Result<(), AllocError>
-    ensures { OnOk result (out.new.items ≡ out.old.items ++ changes_text rows.now) }
-{
-    for row in rows {
-        put_change(alloc, out, row)?;
-    }
-    Ok(())
-}
-
-// Appends the line of a change.
-fn put_change(alloc: Global, out: &mut Vec<u8>, row: &LineRow) -> Result<(), AllocError>
-    ensures { OnOk result (out.new.items ≡ out.old.items ++ change_line row.now) }
-{
-    put(out, b"line ")?;
-    put_decimal(alloc, out, row.count)?;
-    put(out, b" ")?;
-    put_hex8(out, row.bits)?;
-    put(out, b"\n")
-}
-
-// Appends a word as eight digits.
-#[tactic(auto, unfolding(crate::specs::Report::hex8))]
-fn put_hex8(out: &mut Vec<u8>, word: u32) -> Result<(), AllocError>
-    ensures { OnOk result (out.new.items ≡ out.old.items ++ hex8 word) }
-{
-    let digits = [
-        hex_digit(field::<28, 4>(word)),
-        hex_digit(field::<24, 4>(word)),
-        hex_digit(field::<20, 4>(word)),
-        hex_digit(field::<16, 4>(word)),
-        hex_digit(field::<12, 4>(word)),
-        hex_digit(field::<8, 4>(word)),
-        hex_digit(field::<4, 4>(word)),
-        hex_digit(field::<0, 4>(word)),
-    ];
-    put(out, &digits)
-}
-
-// A digit, 0 to 9 and a to f.
-fn hex_digit(value: u32) -> u8
-    requires { value < 16 }
-    ensures { result ≡ hex_digit_of value }
-{
-    if value < 10 {
-        b'0' + value as u8
-    } else {
-        b'a' - 10 + value as u8
-    }
+    put(out, label)?;
+    put_decimal(alloc, out, number)
 }
 
 // Appends a number in decimal digits.

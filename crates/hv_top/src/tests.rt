@@ -28,6 +28,51 @@ m 00000000 00000000 00000000 00000000 00000000 00000000 00000000 00000000 000000
 s 00000000 00000000 00000000 00000000 00000000 00000000
 ";
 
+/// A machine that enters a child, which adds 5 to its x1.
+const CHILD: &str = "job 1
+storage 4
+word root 0 0x000012B7 0x00028293 0x0002800B 0xFFDFF06F
+word root 0x1080 3
+word root 0x1104 1 2
+word root 0x2000 0x00003003
+word root 0x3000 0x00500093
+turn 0 4
+watch 0 root
+";
+
+const CHILD_REPORT: &str = "ran 4 faults 0 recalls 0
+hart 0 1
+watch 0 - one=yes apart=yes touched=no
+count 4
+pc 0000000c mode 3 next 1
+x0 00000000 00000000 00000000 00000000 00000000 00001000 00000000 00000000
+x8 00000000 00000000 00000000 00000000 00000000 00000000 00000000 00000000
+x16 00000000 00000000 00000000 00000000 00000000 00000000 00000000 00000000
+x24 00000000 00000000 00000000 00000000 00000000 00000000 00000000 00000000
+m 00000000 00000000 00000000 00000000 00000000 00000000 00000000 00000000 00000000 00000000
+s 00000000 00000000 00000000 00000000 00000000 00000000
+";
+
+/// The machine's child sees the page of its own control block as its page 1, and runs itself as its child, and so on.
+/// The fault is for the machine at level 2, whose next becomes 0. But it lies in the block of the machine at level 1 too,
+/// and the registers of this machine are put back last, with their next, so that the same fault comes again.
+const SELF: &str = "job 1
+storage 8
+word root 0 0x000012B7 0x00028293 0x0002800B 0xFFDFF06F
+word root 0x1080 3
+word root 0x1100 1 4 2
+word root 0x2000 0x00004003 0x00001003 0x00005003 0x00006003
+word root 0x5000 3 0x00001003 0x00003003 0x00003003
+turn 0 6
+";
+
+const SELF_REPORT: &str = "ran 6 faults 3 recalls 0
+hart 0 1.1.1
+fault 4 hart 0 level 2 cause 1 address 00001000 access 2
+fault 5 hart 0 level 2 cause 1 address 00001000 access 2
+fault 6 hart 0 level 2 cause 1 address 00001000 access 2
+";
+
 const REFUSAL: &str = "refused line 0: form\n";
 
 /// The words of a command line.
@@ -63,6 +108,8 @@ fn sink_of(alloc: Global, chunk: usize, fails: &[u32]) -> Result<MemSink, AllocE
 fn jobs_are_run_and_reported_and_other_texts_refused(rt: HostRuntime) -> Result<(), Fail> {
     let rows = [
         (SMALLEST, 0, SMALLEST_REPORT),
+        (CHILD, 0, CHILD_REPORT),
+        (SELF, 0, SELF_REPORT),
         (
             "job 1\nstorage 16384",
             0,

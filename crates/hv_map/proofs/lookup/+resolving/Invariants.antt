@@ -1,4 +1,4 @@
-use Rattle.std.proofs.Common.{ℕ, ◌+◌, ◌*◌}
+use Rattle.std.proofs.Common.{◌+◌, ◌*◌}
 use Rattle.hv_map.proofs.lookup.+resolving.Given as goal
 
 abbrev pub decreases-resolve_at : goal.decreases-resolve_at

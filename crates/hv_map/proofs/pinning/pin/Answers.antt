@@ -1,5 +1,5 @@
 -- A child that is found is the next machine on the path.
-use Rattle.std.proofs.Common.{ℕ, ◌+◌, List, [], ◌∷◌, length, length-append, drop, get_or, ap, ◌∙◌, sym, arith}
+use Rattle.std.proofs.Common.{◌+◌, List, [], ◌∷◌, length, length-append, drop, get_or, ap, ◌∙◌, sym, arith}
 use Rattle.hv_map.specs.Item.{Item}
 use Rattle.hv_map.specs.Chain.{map_along}
 use Rattle.hv_map.specs.Found.{item_of}

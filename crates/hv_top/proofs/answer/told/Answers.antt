@@ -1,13 +1,11 @@
-use Rattle.std.proofs.Common.{◌∙◌}
-use Rattle.std.proofs.lemmas.Result.{IfOk-weaker}
-use Rattle.hv_top.specs.Seen.{seen}
-use Rattle.hv_top.proofs.Moves.{told_is}
+use Rattle.std.proofs.Common.{sym, ap, ◌∙◌, subst, arith, length}
+use Rattle.hv_nest.specs.State.{State}
+use Rattle.hv_run.specs.Stands.{CanWatch, watches_of}
+use Rattle.hv_top.proofs.Starts.{can_watch}
 use Rattle.hv_top.proofs.answer.told.Goals as goal
 
-pub returns : goal.returns
-returns c =
-    IfOk-weaker c.report.result _ _
-    (λ text is. is ∙ told_is c.args.job.watched (seen c.run.new.self) (seen c.new-play.result) c.args.job.store c.args.job.recording
-    c.events.result.now c.words.result c.deref.result.now c.in_ok-run.ensures c.new-play.ensures.start c.events.ensures.events
-    c.words.ensures c.deref.ensures.value)
-    c.report.ensures
+pub play-requires-clause-watches : goal.play-requires-clause-watches
+play-requires-clause-watches c =
+    subst (λ (st : State). CanWatch st (watches_of c.deref.result.now)) (sym c.new-plain.ensures)
+    (can_watch c.args.job.watched c.args.job.store c.new.result (watches_of c.deref.result.now) (omega (arith, ap length c.store.view_is))
+    c.new.ensures (ap watches_of c.deref.ensures.value ∙ c.in_ok-watches.ensures))

@@ -1,0 +1,7 @@
+use Rattle.std.specs.List.{range_with_len}
+use Rattle.hv_nest.specs.Watched.{places}
+use Rattle.hv_apart.specs.Marked.{Joined}
+use Rattle.hv_apart.proofs.foot.put_words.Given as goal
+
+abbrev pub invariant-loop-k : goal.invariant-loop-k
+invariant-loop-k l = Joined l.initial.words l.words (places l.page (range_with_len l.from l.k))

@@ -1,0 +1,9 @@
+-- At first there are no pages.
+use Rattle.std.proofs.Common.{refl}
+use Rattle.hv_map.specs.Apart.{are_distinct}
+use Rattle.hv_apart.proofs.BitSets.{marks_none}
+use Rattle.hv_apart.proofs.marks.Marks.new.Goals as goal
+
+pub returns : goal.returns
+unfolding are_distinct
+returns c = record { set = marks_none 512; apart = refl }

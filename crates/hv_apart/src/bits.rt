@@ -1,0 +1,29 @@
+//! Sets of numbers, a bit for each.
+
+ghost use Rattle.std.specs.Prelude.{◌≡◌, ℕ, ◌/◌, ◌<◌, ◌==◌, ◌||◌, length};
+ghost use Rattle.hv_apart.specs.Marked.{is_marked};
+
+/// Whether a number is in the set.
+#[tactic(auto, using(crate::proofs::BitSets::bit_sets))]
+pub(crate) fn is_set(words: &[u32], at: u32) -> bool
+    ensures { result ≡ is_marked words.now at }
+{
+    match words.get(at as usize / 32) {
+        None => false,
+        Some(word) => *word >> (at % 32) & 1 == 1,
+    }
+}
+
+/// Puts a number into the set, and answers whether it was there.
+#[tactic(auto, using(crate::proofs::BitSets::bit_sets))]
+pub(crate) fn set(words: &mut [u32], at: u32) -> bool
+    requires { at / 32 < length words.old }
+    ensures was { result ≡ is_marked words.old at }
+    ensures set { (a : ℕ) → is_marked words.new a ≡ (a == at) || is_marked words.old a }
+    ensures length { length words.new ≡ length words.old }
+{
+    let i = at as usize / 32;
+    let word = words[i];
+    words[i] = word | 1 << (at % 32);
+    word >> (at % 32) & 1 == 1
+}

@@ -1,0 +1,43 @@
+//! Telling whether pages are all different.
+
+ghost use Rattle.std.specs.Prelude.{◌<◌, [], ◌∷◌, IfSome};
+ghost use Rattle.std.specs.Option.{option_to_list};
+ghost use Rattle.hv_apart.specs.Added.{Added, Tells};
+
+use crate::bits::set;
+
+/// The bare pages that were added so far, of 16384 at most, and whether they are all different.
+#[derive(Drop)]
+pub(crate) struct Marks {
+    words: [u32; 512],
+    pub(crate) distinct: bool,
+}
+
+impl Marks {
+    pub(crate) fn new() -> Marks
+        ensures { Tells result [] }
+    {
+        Marks {
+            words: [0; 512],
+            distinct: true,
+        }
+    }
+
+    pub(crate) fn add(&mut self, page: u32)
+        requires { page < 16384 }
+        ensures { Added self.old self.new (page ∷ []) }
+    {
+        if set(&mut self.words, page) {
+            self.distinct = false;
+        }
+    }
+    /// Adds the page, if there is one.
+    pub(crate) fn add_found(&mut self, page: Option<u32>)
+        requires { IfSome page (λ g. g < 16384) }
+        ensures { Added self.old self.new (option_to_list page) }
+    {
+        if let Some(page) = page {
+            self.add(page);
+        }
+    }
+}

@@ -1,0 +1,12 @@
+pub mod Causes
+pub mod Counts
+pub mod Follows
+pub mod Frames
+pub mod Puts
+pub mod Reasons
+pub mod Received
+pub mod Refused
+pub mod Routes
+pub mod Rows
+pub mod Told
+pub mod Undone

@@ -1,0 +1,6 @@
+use Rattle.std.proofs.Common.{◌-◌, length}
+use Rattle.hv_map.specs.Chain.{depth_limit}
+use Rattle.hv_nest.proofs.running.+follow.Given as goal
+
+abbrev pub decreases-follow : goal.decreases-follow
+decreases-follow l = depth_limit - length l.chain.now

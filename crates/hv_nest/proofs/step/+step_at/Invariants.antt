@@ -1,0 +1,6 @@
+use Rattle.std.proofs.Common.{◌-◌, length}
+use Rattle.hv_map.specs.Chain.{depth_limit}
+use Rattle.hv_nest.proofs.step.+step_at.Given as goal
+
+abbrev pub decreases-step_at : goal.decreases-step_at
+decreases-step_at l = depth_limit - length l.chain.now

@@ -1,0 +1,12 @@
+pub mod Asks
+pub mod Beyond
+pub mod Changes
+pub mod Frame
+pub mod Kinds
+pub mod Move
+pub mod Notes
+pub mod Received
+pub mod Routing
+pub mod State
+pub mod Step
+pub mod Watched

@@ -1,0 +1,25 @@
+//! One step of a machine, with the machines inside it.
+#![tactic(auto)]
+
+mod changed;
+mod harts;
+pub mod laws;
+mod line_row;
+mod nested;
+mod notes;
+mod noting;
+mod outcome;
+mod plain;
+mod running;
+mod step;
+
+pub use changed::{Changed, ChangedRow};
+pub use harts::{HARTS, Harts};
+pub use line_row::LineRow;
+pub use nested::Nested;
+pub use outcome::{Outcome, StepKind};
+pub use plain::Plain;
+pub use step::host_step;
+
+#[cfg(test)]
+mod tests;

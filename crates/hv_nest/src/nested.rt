@@ -1,0 +1,58 @@
+//! Engines that make the steps of the bare machine and of the machines inside it.
+
+ghost use Rattle.std.specs.Prelude.{◌≡◌, ◌<◌, ◌≤◌, Some, length, slice_get, bit_and};
+ghost use Rattle.hv_cpu.specs.Lines.{lines_mask};
+
+use crate::outcome::Outcome;
+use hv_cpu::Cpu;
+use hv_map::Path;
+use hv_store::Store;
+
+/// The bare machine, with its storage and its harts, and the machines inside it. What an engine keeps besides that state
+/// can't be told from its answers.
+pub trait Nested {
+    ghost use Rattle.hv_nest.specs.State.{State, harts_limit};
+
+    /// The storage and the harts.
+    ghost state: { Self → State };
+
+    ghost use Rattle.hv_nest.specs.Changes.{TellsChanges};
+    ghost use Rattle.hv_nest.specs.Frame.{IsFramedBy};
+    ghost use Rattle.hv_nest.specs.Move.{moved_of, lined_state, running_of};
+
+    /// One step of a hart.
+    fn step(&mut self, hart: u32) -> Outcome
+        requires { hart < length (state self.old).harts }
+        ensures moves { record { kind = result.kind; state = state self.new } ≡ moved_of (state self.old) hart }
+        ensures changed { TellsChanges (state self.old).storage (state self.new).storage result.changed }
+        ensures frame { IsFramedBy (state self.old).storage (running_of (state self.old) hart) (state self.new).storage }
+        ensures harts { length (state self.new).harts ≡ length (state self.old).harts }
+        ensures len { length (state self.new).storage ≡ length (state self.old).storage };
+
+    /// Sets the lines from outside of a hart to those of `mask`, which has no other bits.
+    fn lines(&mut self, hart: u32, mask: u32)
+        requires hart { hart < length (state self.old).harts }
+        requires mask { bit_and mask lines_mask ≡ mask }
+        ensures { state self.new ≡ lined_state (state self.old) hart mask };
+
+    /// The path of the machine that a hart runs.
+    fn running(&mut self, hart: u32) -> Path
+        requires { hart < length (state self.old).harts }
+        ensures path { result ≡ running_of (state self.old) hart }
+        ensures same { state self.new ≡ state self.old };
+
+    /// The registers of a hart.
+    fn cpu(&self, hart: u32) -> Cpu
+        requires { hart < length (state self.now).harts }
+        ensures { slice_get (state self.now).harts hart ≡ Some result };
+
+    /// The number of harts.
+    fn harts(&self) -> u32
+        ensures count { result ≡ length (state self.now).harts }
+        ensures some { 1 ≤ result }
+        ensures bound { result ≤ harts_limit };
+
+    /// The storage.
+    fn parked(&self) -> &Store
+        ensures { result.now ≡ (state self.now).storage };
+}

@@ -1,0 +1,165 @@
+//! What a step writes, with notes of what it changes.
+
+ghost use Rattle.std.specs.Prelude.{◌≡◌, ◌+◌, ◌<◌, ◌≤◌, [], Some, true, length, drop, slice_get};
+ghost use Rattle.std.proofs.Math.Seq.{sets};
+ghost use Rattle.hv_word.specs.Storage.{page_count};
+ghost use Rattle.hv_block.specs.Block.{regs_at, put_regs, with_fault};
+ghost use Rattle.hv_map.specs.Chain.{map_along};
+ghost use Rattle.hv_map.specs.Levels.{IsWithin};
+ghost use Rattle.hv_exec.specs.Changes.{differing, changed_regs};
+ghost use Rattle.hv_nest.specs.Notes.{undone, is_exact};
+
+use crate::notes::Notes;
+use hv_block::block_word;
+use hv_cpu::Cpu;
+use hv_map::{Chain, View, resolve};
+use hv_store::{Access, Refusal, Slot, Space, Steps, Store, Way};
+use hv_word::{Lane, lane_put};
+use std::marker::Brand;
+use std::sync::ledger::{Blank, Ledger};
+
+/// The store as the last machine of a chain sees it, where the words that change are noted.
+#[derive(Drop)]
+pub(crate) struct Noting<'a> {
+    pub(crate) store: &'a mut Store,
+    pub(crate) chain: &'a Chain,
+    pub(crate) notes: &'a mut Notes,
+    ghost exact: { is_exact store.now notes.now ≡ true },
+}
+
+impl Space for Noting<'_> {
+    ghost use Rattle.std.specs.Prelude.{[], ◌∷◌, ◌-◌, length, map};
+    ghost use Rattle.hv_map.specs.Chain.{map_along};
+    ghost use Rattle.hv_map.specs.Links.{framed};
+    ghost use Rattle.hv_nest.specs.Notes.{undone};
+
+    ghost storage = { λ v. v.store.now };
+
+    ghost slots = { λ v. map_along v.store.now v.chain.now };
+
+    ghost depth = { λ v. length v.chain.now };
+
+    ghost place = { λ v. v.store.ghost_name ∷ v.notes.ghost_name ∷ [] };
+
+    ghost frame = { λ v. map framed v.chain.now };
+
+    ghost origin = { λ v. undone v.store.now v.notes.now };
+
+    ghost room = { λ v. 1 - length v.notes.now };
+
+    fn pages(&self) -> u32 {
+        self.chain.pages(self.store)
+    }
+
+    fn read(&mut self, page: u32, word: u32, access: Access) -> Result<u32, Refusal> {
+        View {
+            store: self.store,
+            chain: self.chain,
+        }
+        .read(page, word, access)
+    }
+
+    fn write(&mut self, page: u32, word: u32, lane: Lane, value: u32) -> Result<(), Refusal> {
+        let Way::Open { host } = slot_of(self.store, self.chain, page).write else {
+            return View {
+                store: self.store,
+                chain: self.chain,
+            }
+            .write(page, word, lane, value);
+        };
+        let _pages = self.store.pages();
+        let old = block_word(self.store, host, word);
+        self.notes
+            .put(self.store, 1024 * host + word, lane_put(old, lane, value));
+        Ok(())
+    }
+
+    fn clear_fault(&mut self, page: u32) -> Result<(), Refusal> {
+        let Way::Open { host } = slot_of(self.store, self.chain, page).write else {
+            return View {
+                store: self.store,
+                chain: self.chain,
+            }
+            .clear_fault(page);
+        };
+        put_fault(self.store, self.notes, host, 0, 0, 0);
+        Ok(())
+    }
+}
+
+// Where a page of the chain's machine lies.
+fn slot_of(store: &Store, chain: &Chain, page: u32) -> Slot
+    requires { page < length (map_along store.now chain.now) }
+    ensures slot { slice_get (map_along store.now chain.now) page ≡ Some result }
+    ensures within { IsWithin (page_count store.now) (length chain.now) result }
+{
+    slot_from::<Brand>(store, chain, page, Blank::new(1))
+}
+
+fn slot_from<L: Ledger>(store: &Store, chain: &Chain, page: u32, blank: Blank) -> Slot
+    requires page { page < length (map_along store.now chain.now) }
+    requires name { blank.name ≡ L.name }
+    requires parts { blank.parts ≡ L.parts }
+    requires some { 0 < blank.parts }
+    ensures slot { slice_get (map_along store.now chain.now) page ≡ Some result }
+    ensures within { IsWithin (page_count store.now) (length chain.now) result }
+{
+    let mut steps = Steps::<L>::new(blank);
+    resolve(store, chain, page, &mut steps)
+}
+
+/// Puts the registers into the control block in bare page `page`, and notes what changes.
+pub(crate) fn put_cpu(store: &mut Store, notes: &mut Notes, page: u32, cpu: &Cpu)
+    requires page { page < page_count store.old }
+    requires room { length notes.old + changed_regs (regs_at (undone store.old notes.old) page) cpu.now ≤ 8 }
+    ensures put { store.new ≡ put_regs store.old page cpu.now }
+    ensures origin { undone store.new notes.new ≡ undone store.old notes.old }
+    ensures count { length notes.new ≤ length notes.old + changed_regs (regs_at (undone store.old notes.old) page) cpu.now }
+{
+    let _pages = store.pages();
+    let words = cpu.words();
+    let at = 1024 * page;
+    put_words(store, notes, at, &words[..49]);
+    notes.put(store, at + 64, words[49]);
+}
+
+// Puts words from a place of the storage on, and notes what changes.
+#[tactic(auto, using(crate::proofs::Puts::puts))]
+fn put_words(store: &mut Store, notes: &mut Notes, at: u32, words: &[u32])
+    requires inside { at + length words.now ≤ length store.old }
+    requires room { length notes.old + differing (drop at (undone store.old notes.old)) words.now ≤ 8 }
+    ensures put { store.new ≡ sets store.old at words.now }
+    ensures origin { undone store.new notes.new ≡ undone store.old notes.old }
+    ensures count { length notes.new ≤ length notes.old + differing (drop at (undone store.old notes.old)) words.now }
+{
+    let _pages = store.pages();
+    let mut place = at;
+    for word in words {
+        notes.put(store, place, *word);
+        place += 1;
+    }
+}
+
+/// Tells a fault in the control block in bare page `page`, and notes what changes.
+#[tactic(auto, using(crate::proofs::Puts::faults))]
+pub(crate) fn put_fault(
+    store: &mut Store,
+    notes: &mut Notes,
+    page: u32,
+    cause: u32,
+    address: u32,
+    access: u32,
+)
+    requires page { page < page_count store.old }
+    requires fresh { notes.old ≡ [] }
+    ensures put { store.new ≡ with_fault store.old page cause address access }
+    ensures origin { undone store.new notes.new ≡ undone store.old notes.old }
+    ensures count { length notes.new ≤ 3 }
+    ensures exact { is_exact store.new notes.new ≡ true }
+{
+    let _pages = store.pages();
+    let at = 1024 * page;
+    notes.put(store, at + 72, cause);
+    notes.put(store, at + 73, address);
+    notes.put(store, at + 74, access);
+}

@@ -1,0 +1,78 @@
+//! The engine that keeps nothing besides the state.
+
+ghost use Rattle.std.specs.Prelude.{◌≡◌, All};
+ghost use Rattle.hv_word.specs.Storage.{page_count};
+ghost use Rattle.hv_nest.specs.Kinds.{NextBelow};
+
+use crate::harts::Harts;
+use crate::nested::Nested;
+use crate::outcome::Outcome;
+use crate::running::path_of;
+use crate::step::host_step;
+use hv_cpu::Cpu;
+use hv_map::Path;
+use hv_store::Store;
+use std::marker::Model;
+
+/// A storage with harts, each of whose steps is found anew.
+#[derive(Drop)]
+pub struct Plain {
+    store: Store,
+    harts: Harts,
+}
+
+impl Model for Plain {
+    ghost use Rattle.std.specs.Prelude.{◌≤◌, length, All};
+    ghost use Rattle.hv_word.specs.Storage.{page_count};
+    ghost use Rattle.hv_nest.specs.State.{State, harts_limit};
+    ghost use Rattle.hv_nest.specs.Kinds.{NextBelow};
+
+    ghost Value = { State };
+
+    ghost view = { λ p. record { storage = p.store; harts = p.harts } };
+
+    ghost invariant = { λ p. All (NextBelow (page_count p.store)) p.harts };
+}
+
+impl Plain {
+    /// An engine over a storage and harts, each of whose next, if it has one, is a page of the storage.
+    pub fn new(store: Store, harts: Harts) -> Plain
+        requires { All (NextBelow (page_count store)) harts }
+        ensures { result ≡ record { storage = store; harts = harts } }
+    {
+        Plain { store, harts }
+    }
+}
+
+impl Nested for Plain {
+    ghost state = { λ p. p };
+
+    fn step(&mut self, hart: u32) -> Outcome {
+        let mut cpu = self.harts.get(hart);
+        let outcome = host_step(&mut self.store, &mut cpu, hart);
+        self.harts.put(hart, &cpu);
+        outcome
+    }
+
+    fn lines(&mut self, hart: u32, mask: u32) {
+        let mut cpu = self.harts.get(hart);
+        cpu.set_lines(mask);
+        self.harts.put(hart, &cpu);
+    }
+
+    fn running(&mut self, hart: u32) -> Path {
+        path_of(&self.store, &self.harts.get(hart))
+    }
+
+    fn cpu(&self, hart: u32) -> Cpu {
+        self.harts.get(hart)
+    }
+
+    fn harts(&self) -> u32 {
+        self.harts.count()
+    }
+
+    fn parked(&self) -> &Store {
+        &self.store
+    }
+}

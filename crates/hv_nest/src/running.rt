@@ -1,0 +1,44 @@
+//! Which machine a hart runs.
+
+ghost use Rattle.std.specs.Prelude.{◌≡◌, length};
+ghost use Rattle.hv_word.specs.Storage.{page_count};
+ghost use Rattle.hv_map.specs.Chain.{map_along, running_path};
+ghost use Rattle.hv_nest.specs.Kinds.{NextBelow};
+ghost use Rattle.hv_nest.specs.Beyond.{beyond};
+
+use crate::step::entered;
+use hv_cpu::Cpu;
+use hv_map::{Chain, DEPTH, Found, Path, child};
+use hv_store::Store;
+
+/// The path of the machine that a hart with these registers runs.
+#[tactic(auto, using(crate::proofs::Follows::following))]
+pub(crate) fn path_of(store: &Store, cpu: &Cpu) -> Path
+    requires { NextBelow (page_count store.now) cpu.now }
+    ensures { result ≡ running_path store.now cpu.now }
+{
+    follow(store, &Chain::new(), cpu)
+}
+
+// The chain's path with what is found from there on by following next, where the last machine has these registers.
+#[tactic(auto, using(crate::proofs::Follows::following))]
+fn follow(store: &Store, chain: &Chain, cpu: &Cpu) -> Path
+    requires { NextBelow (length (map_along store.now chain.now)) cpu.now }
+    ensures { result ≡ beyond store.now chain.now cpu.now }
+{
+    let Some(page) = entered(cpu) else {
+        return chain.path();
+    };
+    if chain.len() as usize == DEPTH {
+        return chain.path();
+    }
+    match child(store, chain, page) {
+        Found::Child { host, block } => follow(
+            store,
+            &chain.deeper(page, host, &block),
+            &block.cpu,
+        ),
+        Found::Malformed { host: _ } => chain.path(),
+        Found::Refused(_) => chain.path(),
+    }
+}

@@ -1,0 +1,222 @@
+//! One step of a machine, with the machines inside it.
+
+ghost use Rattle.std.specs.Prelude.{◌≡◌, ◌≢◌, ℕ, ◌+◌, ◌-◌, ◌<◌, ◌≤◌, [], IfErr, IfNone, IfSome, OnErr, OnOk, List, length};
+ghost use Rattle.hv_word.specs.Storage.{page_count};
+ghost use Rattle.hv_exec.specs.Act.{act_of};
+ghost use Rattle.hv_block.specs.Block.{access_word};
+ghost use Rattle.hv_map.specs.Chain.{depth_limit, map_along, running_path};
+ghost use Rattle.hv_exec.specs.Changes.{changed_regs};
+ghost use Rattle.hv_nest.specs.Changes.{TellsChanges};
+ghost use Rattle.hv_nest.specs.Frame.{IsFramedBy};
+ghost use Rattle.hv_nest.specs.Notes.{undone};
+ghost use Rattle.hv_nest.specs.Step.{idle, interrupted, worked, told, step_of, host_step_of};
+ghost use Rattle.hv_nest.specs.Kinds.{step_as, stepped, NextBelow};
+
+use crate::notes::Notes;
+use crate::noting::{Noting, put_cpu, put_fault};
+use crate::outcome::{Outcome, StepKind};
+use hv_cpu::Cpu;
+use hv_csr::{pending, take_trap};
+use hv_exec::act;
+use hv_map::{Chain, DEPTH, Found, child};
+use hv_store::{Access, Refusal, Store};
+
+/// One step of a hart of the bare machine, whose next, if it has one, is a page of the storage.
+#[tactic(auto, using(crate::proofs::Rows::hosting))]
+pub fn host_step(store: &mut Store, cpu: &mut Cpu, hart: u32) -> Outcome
+    requires { NextBelow (page_count store.old) cpu.old }
+    ensures steps { step_as result.kind store.new cpu.new ≡ host_step_of store.old hart cpu.old }
+    ensures changed { TellsChanges store.old store.new result.changed }
+    ensures frame { IsFramedBy store.old (running_path store.old cpu.old) store.new }
+    ensures next { NextBelow (page_count store.old) cpu.new }
+    ensures len { length store.new ≡ length store.old }
+{
+    let mut notes = Notes::new();
+    match step_at(store, &mut notes, &Chain::new(), hart, cpu) {
+        Ok(kind) => Outcome {
+            kind,
+            changed: notes.changed(store),
+        },
+        Err(_) => unreachable!(),
+    }
+}
+
+// The step of the last machine of a chain, with its registers. An error is a refusal for a machine further out; then nothing
+// changed.
+#[tactic(auto, using(crate::proofs::Rows::rows, crate::proofs::Counts::counts))]
+pub(crate) fn step_at(
+    store: &mut Store,
+    notes: &mut Notes,
+    chain: &Chain,
+    hart: u32,
+    cpu: &mut Cpu,
+) -> Result<StepKind, Refusal>
+    requires fresh { notes.old ≡ [] }
+    requires next { NextBelow (length (map_along store.old chain.now)) cpu.old }
+    ensures steps { stepped result store.new cpu.new
+        ≡ step_of (depth_limit - length chain.now) store.old (map_along store.old chain.now) (length chain.now) hart cpu.old }
+    ensures next { NextBelow (length (map_along store.old chain.now)) cpu.new }
+    ensures len { length store.new ≡ length store.old }
+    ensures level { IfErr result (λ e. e.level < length chain.now) }
+    ensures err_storage { OnErr result (store.new ≡ store.old) }
+    ensures err_cpu { OnErr result (cpu.new ≡ cpu.old) }
+    ensures err_notes { OnErr result (notes.new ≡ []) }
+    ensures origin { undone store.new notes.new ≡ store.old }
+    ensures count { length notes.new + changed_regs cpu.old cpu.new ≤ 6 }
+{
+    let level = chain.len();
+    if let Some(cause) = pending(cpu) {
+        return Ok(interrupt(cpu, level, cause));
+    }
+    let Some(page) = entered(cpu) else {
+        return act_along(store, notes, chain, hart, cpu);
+    };
+    let _pages = chain.pages(store);
+    if level as usize == DEPTH {
+        return Err(Refusal {
+            level: 0,
+            cause: 5,
+            address: 4096 * page,
+            access: Access::Read,
+        });
+    }
+    match child(store, chain, page) {
+        Found::Child { host, block } => {
+            let deeper = chain.deeper(page, host, &block);
+            let mut inner = block.cpu;
+            match step_at(store, notes, &deeper, 0, &mut inner) {
+                Ok(kind) => {
+                    put_cpu(store, notes, host, &inner);
+                    Ok(kind)
+                }
+                Err(refusal) => tell(store, notes, level, cpu, host, refusal),
+            }
+        }
+        Found::Malformed { host } => tell(
+            store,
+            notes,
+            level,
+            cpu,
+            host,
+            Refusal {
+                level,
+                cause: 6,
+                address: 4096 * page,
+                access: Access::Read,
+            },
+        ),
+        Found::Refused(refusal) => Err(refusal),
+    }
+}
+
+// The page of the machine that is to run, if any.
+pub(crate) fn entered(cpu: &Cpu) -> Option<u32>
+    ensures some { IfSome result (λ page. page ≡ cpu.now.next) }
+    ensures real { IfSome result (λ page. page ≢ 0) }
+    ensures none { IfNone result (cpu.now.next ≡ 0) }
+{
+    let _ = &cpu.pc;
+    cpu.next
+}
+
+// No machine is to run any more.
+fn stop(cpu: &mut Cpu)
+    ensures { cpu.new ≡ idle cpu.old }
+{
+    cpu.next = None;
+}
+
+#[tactic(auto, using(crate::proofs::Counts::counts))]
+// An interrupt is taken; where a machine is to run, its parent, at `level`, gets control back first.
+fn interrupt(cpu: &mut Cpu, level: u32, cause: u32) -> StepKind
+    requires { cause < 16 }
+    ensures does { (S : List ℕ) → step_as result S cpu.new ≡ interrupted S level cpu.old cause }
+    ensures next { cpu.old.next ≡ 0 → cpu.new.next ≡ 0 }
+    ensures idle { cpu.old.next ≢ 0 → cpu.new.next ≡ 0 }
+    ensures count { changed_regs cpu.old cpu.new ≤ 6 }
+{
+    if cpu.next.is_some() {
+        stop(cpu);
+        return StepKind::Recall { receiver: level };
+    }
+    take_trap(cpu, cause, true, 0);
+    StepKind::Worked
+}
+
+#[tactic(auto, using(crate::proofs::Counts::counts))]
+// One instruction of the last machine of a chain, where no machine is to run.
+fn act_along(
+    store: &mut Store,
+    notes: &mut Notes,
+    chain: &Chain,
+    hart: u32,
+    cpu: &mut Cpu,
+) -> Result<StepKind, Refusal>
+    requires fresh { notes.old ≡ [] }
+    requires next { cpu.old.next ≡ 0 }
+    ensures acts { stepped result store.new cpu.new ≡ worked (act_of store.old (map_along store.old chain.now) hart cpu.old) }
+    ensures next { NextBelow (length (map_along store.old chain.now)) cpu.new }
+    ensures len { length store.new ≡ length store.old }
+    ensures level { IfErr result (λ e. e.level < length chain.now) }
+    ensures err_storage { OnErr result (store.new ≡ store.old) }
+    ensures err_cpu { OnErr result (cpu.new ≡ cpu.old) }
+    ensures err_notes { OnErr result (notes.new ≡ []) }
+    ensures origin { undone store.new notes.new ≡ store.old }
+    ensures count { length notes.new + changed_regs cpu.old cpu.new ≤ 6 }
+{
+    let mut noting = Noting {
+        store,
+        chain,
+        notes,
+    };
+    act(cpu, hart, &mut noting)?;
+    Ok(StepKind::Worked)
+}
+
+#[tactic(auto, using(crate::proofs::Counts::counts))]
+// Tells a refusal to the machine at `level`, whose child's block is in bare page `host`, if it is for that machine: its
+// child stops running. Else the refusal is passed on, and nothing changed.
+fn tell(
+    store: &mut Store,
+    notes: &mut Notes,
+    level: u32,
+    cpu: &mut Cpu,
+    host: u32,
+    refusal: Refusal,
+) -> Result<StepKind, Refusal>
+    requires fresh { notes.old ≡ [] }
+    requires host { host < page_count store.old }
+    ensures tells { stepped result store.new cpu.new ≡ told store.old level cpu.old host refusal }
+    ensures next { OnOk result (cpu.new.next ≡ 0) }
+    ensures len { length store.new ≡ length store.old }
+    ensures level { IfErr result (λ e. (e.level ≡ refusal.level) × (e.level ≢ level)) }
+    ensures err_storage { OnErr result (store.new ≡ store.old) }
+    ensures err_cpu { OnErr result (cpu.new ≡ cpu.old) }
+    ensures err_notes { OnErr result (notes.new ≡ []) }
+    ensures origin { undone store.new notes.new ≡ store.old }
+    ensures count { length notes.new + changed_regs cpu.old cpu.new ≤ 6 }
+{
+    if refusal.level != level {
+        return Err(refusal);
+    }
+    let access = word_of(refusal.access);
+    put_fault(store, notes, host, refusal.cause, refusal.address, access);
+    stop(cpu);
+    Ok(StepKind::Fault {
+        receiver: level,
+        cause: refusal.cause,
+        address: refusal.address,
+        access: refusal.access,
+    })
+}
+
+// How an access is spelled in a control block.
+fn word_of(access: Access) -> u32
+    ensures { result ≡ access_word access }
+{
+    match access {
+        Access::Read => 1,
+        Access::Write => 2,
+        Access::Fetch => 3,
+    }
+}

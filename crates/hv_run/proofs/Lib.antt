@@ -1,0 +1,10 @@
+pub mod Begins
+pub mod Blocks
+pub mod Changes
+pub mod Lists
+pub mod Moves
+pub mod Ring
+pub mod Starts
+pub mod Tells
+pub mod Touch
+pub mod Within

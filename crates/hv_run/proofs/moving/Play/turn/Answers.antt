@@ -1,0 +1,26 @@
+use Rattle.std.proofs.Common.{◌≡◌, ◌++◌, ◌∷◌, [], List, ap, sym, ◌∙◌, subst}
+use Rattle.hv_nest.specs.Changes.{TellsChanges}
+use Rattle.hv_nest.specs.Move.{StepOf, moved_of}
+use Rattle.hv_nest.specs.State.{State}
+use Rattle.hv_run.specs.Play.{Played}
+use Rattle.hv_run.specs.Stands.{StandsFor}
+use Rattle.hv_run.specs.declared.happened.Happened.TheVariants.{Stepped}
+use Rattle.hv_run.proofs.Moves.{stands_more}
+use Rattle.hv_run.proofs.Tells.{tells_step}
+use Rattle.hv_run.proofs.moving.Play.turn.Goals as goal
+
+pub returns-clause-stands : goal.returns-clause-stands
+returns-clause-stands g c =
+    λ start moves watches stands is.
+    let hart = c.args.hart in
+    let old = g.N.Nested.state c.args.nested.now in
+    let new = g.N.Nested.state c.step-outcome.new.self in
+    let kind = c.step-outcome.result.kind in
+    let changed = c.step-outcome.result.changed in
+    let same = c.running-running.ensures.same in
+    let moves_is = c.step-outcome.ensures.moves ∙ ap (λ (st : State). moved_of st hart) same in
+    let told = subst (λ (st : State). TellsChanges st.storage new.storage changed) same c.step-outcome.ensures.changed in
+    let len = c.step-outcome.ensures.len ∙ ap (λ (st : State). Rattle.std.proofs.Common.length st.storage) same in
+    let tells = tells_step old new hart c.running-running.result kind changed moves_is c.running-running.ensures.path told len in
+    let both = stands_more c.args.self.now start old moves watches (StepOf hart) new (Stepped hart c.running-running.result kind changed) tells stands is in
+    (subst (λ (p : Played). StandsFor p start (moves ++ StepOf hart ∷ []) watches) (sym c.tell.ensures) both.0, both.1)

@@ -1,0 +1,21 @@
+use Rattle.std.proofs.Common.{arith}
+use Rattle.hv_run.proofs.Within.{same_at, told_more, rest_more}
+use Rattle.hv_run.proofs.moving.tell_all.Goals as goal
+
+pub tell-requires-clause-count : goal.tell-requires-clause-count
+tell-requires-clause-count g c =
+    let e = same_at c.loop-one.watched c.args.watched.now c.loop-one.one-index c.one-item.result c.loop-one.invariant.rest in
+    let room = (c.requires.room c.loop-one.one-index c.one-item.result (omega arith)).0 in
+    grind (arith, e, room)
+
+pub tell-requires-clause-total : goal.tell-requires-clause-total
+tell-requires-clause-total g c =
+    let e = same_at c.loop-one.watched c.args.watched.now c.loop-one.one-index c.one-item.result c.loop-one.invariant.rest in
+    let room = (c.requires.room c.loop-one.one-index c.one-item.result (omega arith)).1 in
+    grind (arith, e, room)
+
+pub loop-one-preserved : goal.loop-one-preserved
+loop-one-preserved g c = record {
+  told = told_more c.args.happened.now (g.N.Nested.state c.args.nested.now) c.loop-one.watched c.args.watched.now c.loop-one.one-index c.one-item.result c.tell.new.self (omega arith) (omega arith) c.loop-one.invariant.told c.loop-one.invariant.rest c.tell.ensures;
+  rest = rest_more c.loop-one.watched c.args.watched.now c.loop-one.one-index c.tell.new.self c.loop-one.invariant.rest;
+}

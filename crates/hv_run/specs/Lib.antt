@@ -1,0 +1,5 @@
+pub mod Fits
+pub mod Play
+pub mod Record
+pub mod Stands
+pub mod Text

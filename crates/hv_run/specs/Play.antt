@@ -1,0 +1,134 @@
+-- What a play keeps while it goes on, and what a move changes in it.
+use Rattle.std.specs.Prelude.{ℕ, ◌+◌, ◌≤◌, All, Bool, true, false, not, ◌&&◌, ◌||◌, ◌==◌, if◌then◌else◌, List, [], ◌∷◌, ◌++◌, length, map, take, Option, Some, None, slice_get}
+use Rattle.hv_word.specs.Storage.{word_at}
+use Rattle.hv_cpu.specs.Regs.{Regs}
+use Rattle.hv_cpu.specs.Lines.{lines, unlined}
+use Rattle.hv_nest.specs.declared.changed.ChangedRow.{ChangedRow}
+use Rattle.hv_nest.specs.declared.outcome.StepKind.{StepKind}
+use Rattle.hv_nest.specs.declared.outcome.StepKind.TheVariants.{Worked as WorkedKind, Recall, Fault}
+use Rattle.hv_nest.specs.State.{State}
+use Rattle.hv_nest.specs.Watched.{LineChange, begins, is_outside}
+use Rattle.hv_run.specs.declared.numbers.Counts.{Counts}
+use Rattle.hv_run.specs.declared.happened.Happened.{Happened}
+use Rattle.hv_run.specs.declared.happened.Happened.TheVariants.{Stepped, Lined}
+use Rattle.hv_run.specs.Record.{WatchTold, Told, kept_limit, last_kept}
+use Rattle.hv_apart.specs.Marked.{is_marked}
+
+-- a watch: what is told of it so far, the set of its foot's places, and its present word with the interrupt lines
+pub record Watching : Type 0 where
+  pub told : WatchTold
+  pub foot : List ℕ
+  pub status : ℕ
+
+-- a play: how many moves it made, its numbers and last faults, and its watches
+pub record Played : Type 0 where
+  pub calls : ℕ
+  pub counts : Counts
+  pub watching : List Watching
+
+abbrev pub rows_told : List Watching → List WatchTold
+rows_told ws = map (λ (w : Watching). w.told) ws
+
+abbrev pub told_of : Played → Told
+told_of p = record {
+  steps = p.counts.steps;
+  faults = p.counts.faults;
+  recalls = p.counts.recalls;
+  kept = p.counts.kept;
+  watches = rows_told p.watching;
+}
+
+-- The word that has the interrupt lines of a machine: word 42 of the bare page that is given, or mip of the hart.
+abbrev pub mip_of : Option Regs → ℕ
+mip_of None = 0
+mip_of (Some r) = r.mip
+
+abbrev pub status_at : ℕ → Option ℕ → State → ℕ
+status_at h None st = mip_of (slice_get st.harts h)
+status_at h (Some g) st = word_at st.storage g 42
+
+-- whether one of these words is in the set
+abbrev pub any_marked : List ℕ → List ChangedRow → Bool
+any_marked foot [] = false
+any_marked foot (row ∷ rows) = is_marked foot row.at || any_marked foot rows
+
+-- whether a move counts for a watch
+abbrev pub counts_for : WatchTold → Happened → Bool
+counts_for w (Stepped hart running kind changed) =
+    (hart == w.hart) && (begins w.path running && not (is_outside (length w.path) kind))
+counts_for w Lined = false
+
+abbrev pub rows_of : Happened → List ChangedRow
+rows_of (Stepped hart running kind changed) = take changed.len changed.rows
+rows_of Lined = []
+
+-- whether the word with the lines changed in another bit than the lines; a hart's word doesn't matter
+abbrev pub status_differs : Option ℕ → ℕ → ℕ → Bool
+status_differs None old new = false
+status_differs (Some g) old new = not (unlined old == unlined new)
+
+-- whether it touches the watch, if it doesn't count
+abbrev pub touches : Watching → Happened → ℕ → Bool
+touches w happened new = any_marked w.foot (rows_of happened) || status_differs w.told.block w.status new
+
+-- one more change of the lines, if they are others; as many are kept as are told
+abbrev pub more_changes : List LineChange → ℕ → ℕ → ℕ → List LineChange
+more_changes changes count old new =
+    if lines old == lines new then changes
+    else take kept_limit (changes ++ record { count = count; bits = lines new } ∷ [])
+
+-- what is told of a watch after a move: whether it counts, whether it touches, and the word with the lines before and after
+abbrev pub told_after : Bool → Bool → ℕ → ℕ → WatchTold → WatchTold
+told_after true touching old new w = record w { count = w.count + 1 }
+told_after false touching old new w = record w {
+  touched = w.touched || touching;
+  line_total = (if lines old == lines new then w.line_total else w.line_total + 1);
+  lines = more_changes w.lines w.count old new;
+}
+
+-- a watch after a move that doesn't count
+abbrev pub watching_beside : Bool → ℕ → Watching → Watching
+watching_beside touching new w = record { told = told_after false touching w.status new w.told; foot = w.foot; status = new }
+
+-- a watch after a move, with the word that has the lines then
+abbrev pub watching_after : Happened → ℕ → Watching → Watching
+watching_after happened new w = record {
+  told = told_after (counts_for w.told happened) (touches w happened new) w.status new w.told;
+  foot = w.foot;
+  status = new;
+}
+
+abbrev pub watched_after : Happened → State → Watching → Watching
+watched_after happened next w = watching_after happened (status_at w.told.hart w.told.block next) w
+
+-- the numbers and the last faults after a step
+abbrev pub kind_after : Counts → ℕ → StepKind → Counts
+kind_after c hart WorkedKind = record c { steps = c.steps + 1 }
+kind_after c hart (Recall l) = record c { steps = c.steps + 1; recalls = c.recalls + 1 }
+kind_after c hart (Fault l cause address a) = record c {
+  steps = c.steps + 1;
+  faults = c.faults + 1;
+  kept = last_kept (c.kept ++ record { step = c.steps + 1; hart = hart; receiver = l; cause = cause; address = address; access = a } ∷ []);
+}
+
+abbrev pub counts_after : Counts → Happened → Counts
+counts_after c (Stepped hart running kind changed) = kind_after c hart kind
+counts_after c Lined = c
+
+-- the watches after a move, which left the bare machine in this state
+abbrev pub all_after : Happened → State → List Watching → List Watching
+all_after happened next ws = map (watched_after happened next) ws
+
+abbrev pub played_after : Happened → State → Played → Played
+played_after happened next p = record {
+  calls = p.calls + 1;
+  counts = counts_after p.counts happened;
+  watching = all_after happened next p.watching;
+}
+
+-- no number passes that of the moves
+abbrev pub CountsWithin : ℕ → Counts → Type 0
+CountsWithin n c = (c.steps ≤ n) × (c.faults ≤ n) × (c.recalls ≤ n)
+
+abbrev pub TellsWithin : ℕ → List Watching → Type 0
+TellsWithin n ws = All (λ (w : Watching). (w.told.count ≤ n) × (w.told.line_total ≤ n)) ws

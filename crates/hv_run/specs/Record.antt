@@ -1,0 +1,118 @@
+-- What is told of a play: over a list of moves from a start, for a list of watches.
+use Rattle.std.specs.Prelude.{ℕ, ◌+◌, ◌-◌, Bool, List, [], ◌∷◌, ◌++◌, length, take, drop, Option, Some, None}
+use Rattle.std.specs.List.{flat_map}
+use Rattle.std.specs.Prelude.{replicate}
+use Rattle.hv_store.specs.declared.access.Access.{Access}
+use Rattle.hv_irq.specs.declared.Event.{Event}
+use Rattle.hv_irq.specs.declared.Event.TheVariants.{Turn, Lines}
+use Rattle.hv_map.specs.Item.{Item}
+use Rattle.hv_map.specs.Chain.{pinned}
+use Rattle.hv_map.specs.Apart.{is_one, is_apart}
+use Rattle.hv_nest.specs.declared.outcome.StepKind.{StepKind}
+use Rattle.hv_nest.specs.declared.outcome.StepKind.TheVariants.{Worked as WorkedKind, Recall, Fault}
+use Rattle.hv_nest.specs.State.{State}
+use Rattle.hv_nest.specs.Move.{Move, StepOf, LinesOf, moved_of, state_after}
+use Rattle.hv_nest.specs.Watched.{LineChange, Tally, no_tally, tally_of, foot, last_block}
+
+-- the moves of an event: a turn is as many steps
+abbrev pub moves_of : Event → List Move
+moves_of (Turn hart count) = replicate count (StepOf hart)
+moves_of (Lines hart mask) = LinesOf hart mask ∷ []
+
+abbrev pub schedule : List Event → List Move
+schedule events = flat_map moves_of events
+
+-- a fault: the number of its step, from 1 on, the hart that made it, the level that received it, and what it was told
+pub record FaultTold : Type 0 where
+  pub step : ℕ
+  pub hart : ℕ
+  pub receiver : ℕ
+  pub cause : ℕ
+  pub address : ℕ
+  pub access : Access
+
+-- the steps so far, their faults in order, and how many of them were recalls
+pub record Count : Type 0 where
+  pub steps : ℕ
+  pub faults : List FaultTold
+  pub recalls : ℕ
+
+abbrev pub no_count : Count
+no_count = record { steps = 0; faults = []; recalls = 0 }
+
+abbrev pub kind_counted : Count → ℕ → StepKind → Count
+kind_counted c hart WorkedKind = record c { steps = c.steps + 1 }
+kind_counted c hart (Recall l) = record c { steps = c.steps + 1; recalls = c.recalls + 1 }
+kind_counted c hart (Fault l cause address a) = record c {
+  steps = c.steps + 1;
+  faults = c.faults ++ record { step = c.steps + 1; hart = hart; receiver = l; cause = cause; address = address; access = a } ∷ [];
+}
+
+abbrev pub count_after : State → Move → Count → Count
+count_after st (StepOf hart) c = kind_counted c hart (moved_of st hart).kind
+count_after st (LinesOf hart mask) c = c
+
+unfoldable pub count_of : State → List Move → Count → Count
+count_of st [] c = c
+count_of st (move ∷ moves) c = count_of (state_after st move) moves (count_after st move c)
+
+-- how many faults, and how many changes of lines for each watch, are kept
+abbrev pub kept_limit : ℕ
+kept_limit = 1024
+
+-- the last of a list, as many as are kept
+abbrev pub last_kept : {X : Type 0} → List X → List X
+last_kept xs = drop (length xs - kept_limit) xs
+
+-- a hart and a machine's path, to be watched
+pub record WatchOf : Type 0 where
+  pub hart : ℕ
+  pub path : List ℕ
+
+-- what is told of a watch
+pub record WatchTold : Type 0 where
+  pub hart : ℕ
+  pub path : List ℕ
+  pub block : Option ℕ
+  pub one : Bool
+  pub apart : Bool
+  pub touched : Bool
+  pub count : ℕ
+  pub line_total : ℕ
+  pub lines : List LineChange
+
+abbrev pub told_by : WatchOf → State → List Item → Tally → WatchTold
+told_by w start items t = record {
+  hart = w.hart;
+  path = w.path;
+  block = last_block items;
+  one = is_one start.storage items;
+  apart = is_apart start.storage items;
+  touched = t.touched;
+  count = t.count;
+  line_total = length t.changes;
+  lines = take kept_limit t.changes;
+}
+
+-- where the machine is there at the start, which it is for each watch
+abbrev pub told_at : WatchOf → State → List Move → Option (List Item) → List WatchTold
+told_at w start moves None = []
+told_at w start moves (Some items) =
+    told_by w start items (tally_of w.hart w.path items (foot start.storage items) start moves no_tally) ∷ []
+
+-- all that is told of a play
+pub record Told : Type 0 where
+  pub steps : ℕ
+  pub faults : ℕ
+  pub recalls : ℕ
+  pub kept : List FaultTold
+  pub watches : List WatchTold
+
+abbrev pub told_of_count : Count → List WatchTold → Told
+told_of_count c watches = record { steps = c.steps; faults = length c.faults; recalls = c.recalls; kept = last_kept c.faults; watches = watches }
+
+-- what is told of the moves from a start, for the watches
+unfoldable pub record_of : State → List Move → List WatchOf → Told
+record_of start moves watches =
+    told_of_count (count_of start moves no_count)
+    (flat_map (λ (w : WatchOf). told_at w start moves (pinned start.storage w.path)) watches)

@@ -1,0 +1,26 @@
+//! Playing a schedule, and what is told of it.
+#![tactic(auto)]
+
+mod counts;
+mod fault;
+mod faults;
+mod happened;
+mod moving;
+mod numbers;
+mod playing;
+mod record;
+mod rows;
+mod starting;
+mod text;
+mod watched;
+
+pub use fault::FaultRow;
+pub use faults::KEPT;
+pub use moving::Play;
+pub use playing::play;
+pub use record::{Record, WatchRow};
+pub use rows::Rows;
+pub use text::{fault_line, machine_lines, register_lines};
+
+#[cfg(test)]
+mod tests;

@@ -1,0 +1,231 @@
+//! A play that goes on: moves of the bare machine, one after another, and what is told of them.
+
+ghost use Rattle.std.specs.Prelude.{◌≡◌, ◌≤◌, ◌+◌, ◌<◌, ◌^◌, ◌-◌, [], ◌∷◌, IfOk, Some, bit_and, length, replicate, slice_get, vec_capacity};
+ghost use Rattle.hv_cpu.specs.Lines.{lines_mask};
+ghost use Rattle.hv_nest.specs.Changes.{TellsChanges};
+ghost use Rattle.hv_nest.specs.Move.{StepOf, LinesOf, moved_of, lined_state, last_of};
+ghost use Rattle.hv_irq.specs.Events.{hart_of, mask_of, steps_of};
+ghost use Rattle.hv_run.specs.Fits.{FitsRows};
+ghost use Rattle.hv_run.specs.Play.{all_after, played_after, rows_told, told_of, TellsWithin};
+ghost use Rattle.hv_run.specs.Record.{moves_of};
+ghost use Rattle.hv_run.specs.Stands.{CanWatch, EachNew, Follows, StandsFor, watches_of};
+
+use crate::fault::FaultRow;
+use crate::happened::Happened;
+use crate::numbers::Counts;
+use crate::record::{Record, WatchRow};
+use crate::rows::Rows;
+use crate::starting::start;
+use crate::watched::Watched;
+use hv_irq::Event;
+use hv_map::Watch;
+use hv_nest::{Nested, Outcome};
+use std::alloc::{AllocError, Global};
+use std::marker::Model;
+
+/// A play that goes on: the moves that were made by `turn` and `lines`, and what is told of them. It keeps the foot of each
+/// watch as the start had it, and takes no memory after it was made.
+#[derive(Drop)]
+pub struct Play {
+    calls: u64,
+    counts: Counts,
+    watched: Vec<Watched>,
+    // room for what is told of the watches in the end
+    rows: Vec<WatchRow>,
+}
+
+impl Model for Play {
+    ghost use Rattle.std.specs.Prelude.{◌≡◌, ◌≤◌, [], length, vec_capacity};
+    ghost use Rattle.hv_run.specs.Play.{Played, CountsWithin, TellsWithin};
+
+    ghost Value = { Played };
+
+    ghost view = { λ p. record { calls = p.calls; counts = p.counts; watching = p.watched.items } };
+
+    ghost invariant = { λ p. CountsWithin p.calls p.counts × TellsWithin p.calls p.watched.items × (p.rows.items ≡ []) × (length p.watched.items ≤ vec_capacity p.rows) };
+}
+
+impl Play {
+    /// A play that has made no move yet, from the engine's present state, with all the memory that it needs. Each watch's
+    /// machine is there with at most 16384 pages, and the bare machine is watched only where it has one hart.
+    pub fn new<N: Nested>(
+        alloc: Global,
+        nested: &mut N,
+        watches: &[Watch],
+    ) -> Result<Play, AllocError>
+        requires watches { CanWatch (N.state nested.old) (watches_of watches.now) }
+        requires number { length watches.now ≤ 16 }
+        ensures stands { IfOk result (λ p. StandsFor p (N.state nested.old) [] (watches_of watches.now)) }
+        ensures calls { IfOk result (λ p. p.calls ≡ 0) }
+        ensures same { N.state nested.new ≡ N.state nested.old }
+    {
+        let watched = start_all(alloc, nested, watches)?;
+        let counts = Counts::new(alloc)?;
+        let rows = Vec::with_capacity(alloc, watches.len())?;
+        Ok(Play {
+            calls: 0,
+            counts,
+            watched,
+            rows,
+        })
+    }
+
+    /// Makes one step of a hart, and answers its outcome. Whatever start and moves the play stands for, it then stands for
+    /// them with this step.
+    pub fn turn<N: Nested>(&mut self, nested: &mut N, hart: u32) -> Outcome
+        requires hart { hart < length (N.state nested.old).harts }
+        requires calls { self.old.calls < 2 ^ 62 }
+        ensures moves { record { kind = result.kind; state = N.state nested.new } ≡ moved_of (N.state nested.old) hart }
+        ensures changed { TellsChanges (N.state nested.old).storage (N.state nested.new).storage result.changed }
+        ensures calls { self.new.calls ≡ self.old.calls + 1 }
+        ensures harts { length (N.state nested.new).harts ≡ length (N.state nested.old).harts }
+        ensures stands { Follows self.old (N.state nested.old) self.new (N.state nested.new) (StepOf hart ∷ []) }
+    {
+        let running = nested.running(hart);
+        let outcome = nested.step(hart);
+        let happened = Happened::Stepped {
+            hart,
+            running,
+            kind: outcome.kind,
+            changed: outcome.changed,
+        };
+        self.tell(nested, &happened);
+        outcome
+    }
+
+    /// Changes a hart's three interrupt lines. Whatever start and moves the play stands for, it then stands for them with
+    /// this change.
+    pub fn lines<N: Nested>(&mut self, nested: &mut N, hart: u32, mask: u32)
+        requires hart { hart < length (N.state nested.old).harts }
+        requires mask { bit_and mask lines_mask ≡ mask }
+        requires calls { self.old.calls < 2 ^ 62 }
+        ensures state { N.state nested.new ≡ lined_state (N.state nested.old) hart mask }
+        ensures calls { self.new.calls ≡ self.old.calls + 1 }
+        ensures harts { length (N.state nested.new).harts ≡ length (N.state nested.old).harts }
+        ensures stands { Follows self.old (N.state nested.old) self.new (N.state nested.new) (LinesOf hart mask ∷ []) }
+    {
+        nested.lines(hart, mask);
+        self.tell(nested, &Happened::Lined);
+    }
+
+    /// How often `turn` and `lines` were called.
+    pub fn calls(&self) -> u64
+        ensures { result ≡ self.now.calls }
+    {
+        self.calls
+    }
+
+    /// How many faults are kept: the last 1024.
+    pub fn kept_len(&self) -> u32
+        ensures { result ≡ length (told_of self.now).kept }
+    {
+        self.counts.kept.len() as u32
+    }
+
+    /// Fault `i` of those that are kept, in order.
+    pub fn kept(&self, i: u32) -> FaultRow
+        requires { i < length (told_of self.now).kept }
+        ensures { slice_get (told_of self.now).kept i ≡ Some result }
+    {
+        self.counts.kept.get(i as usize)
+    }
+
+    /// What is told of the play.
+    pub fn finish(self) -> Record
+        ensures { result ≡ told_of self }
+    {
+        let Play {
+            calls: _,
+            counts,
+            watched,
+            rows,
+        } = self;
+        Record {
+            steps: counts.steps,
+            faults: counts.faults,
+            recalls: counts.recalls,
+            kept: Rows::new(counts.kept.into_vec()),
+            watches: Rows::new(rows_of(watched, rows)),
+        }
+    }
+
+    /// Makes the steps or the change of an event.
+    pub(crate) fn event<N: Nested>(&mut self, nested: &mut N, event: Event)
+        requires hart { hart_of event < length (N.state nested.old).harts }
+        requires mask { bit_and (mask_of event) lines_mask ≡ mask_of event }
+        requires calls { self.old.calls + steps_of event < 2 ^ 62 }
+        ensures calls { self.new.calls ≤ self.old.calls + steps_of event + 1 }
+        ensures harts { length (N.state nested.new).harts ≡ length (N.state nested.old).harts }
+        ensures stands { Follows self.old (N.state nested.old) self.new (N.state nested.new) (moves_of event) }
+    {
+        match event {
+            Event::Turn { hart, count } => self.turns(nested, hart, count),
+            Event::Lines { hart, mask } => self.lines(nested, hart, mask),
+        }
+    }
+
+    // Makes so many steps of a hart.
+    fn turns<N: Nested>(&mut self, nested: &mut N, hart: u32, count: u32)
+        requires hart { hart < length (N.state nested.old).harts }
+        requires calls { self.old.calls + count ≤ 2 ^ 62 }
+        ensures calls { self.new.calls ≡ self.old.calls + count }
+        ensures harts { length (N.state nested.new).harts ≡ length (N.state nested.old).harts }
+        ensures stands { Follows self.old (N.state nested.old) self.new (N.state nested.new) (replicate count (StepOf hart)) }
+    {
+        for _step in 0..count {
+            self.turn(nested, hart);
+        }
+    }
+
+    // Tells a move, after which the engine is as it is now.
+    fn tell<N: Nested>(&mut self, nested: &N, happened: &Happened)
+        requires fits { FitsRows happened.now }
+        requires calls { self.old.calls < 2 ^ 62 }
+        ensures { self.new ≡ played_after happened.now (N.state nested.now) self.old }
+    {
+        self.calls += 1;
+        self.counts.tell(happened);
+        tell_all(&mut self.watched, nested, happened);
+    }
+}
+
+// Tells a move to each watch.
+fn tell_all<N: Nested>(watched: &mut [Watched], nested: &N, happened: &Happened)
+    requires fits { FitsRows happened.now }
+    requires room { TellsWithin (2 ^ 62 - 1) watched.old }
+    ensures { watched.new ≡ all_after happened.now (N.state nested.now) watched.old }
+{
+    for one in watched.iter_mut() {
+        one.tell(nested, happened);
+    }
+}
+
+// The watches at the start.
+fn start_all<N: Nested>(
+    alloc: Global,
+    nested: &N,
+    watches: &[Watch],
+) -> Result<Vec<Watched>, AllocError>
+    requires { CanWatch (N.state nested.now) (watches_of watches.now) }
+    ensures { IfOk result (λ ws. EachNew (N.state nested.now) (watches_of watches.now) ws.items) }
+{
+    let mut watched = Vec::new(alloc);
+    for watch in watches {
+        let one = start(alloc, nested, watch)?;
+        watched.push(one)?;
+    }
+    Ok(watched)
+}
+
+// What is told of the watches, in a `Vec` that has room for it.
+fn rows_of(watched: Vec<Watched>, rows: Vec<WatchRow>) -> Vec<WatchRow>
+    requires none { rows.items ≡ [] }
+    requires room { length watched.items ≤ vec_capacity rows }
+    ensures { result.items ≡ rows_told watched.items }
+{
+    let mut rows = rows;
+    for one in watched {
+        let _ = rows.push(one.into_row());
+    }
+    rows
+}

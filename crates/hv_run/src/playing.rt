@@ -1,0 +1,41 @@
+//! Playing a schedule.
+
+ghost use Rattle.std.specs.Prelude.{◌≡◌, ◌≤◌, ◌<◌, All, IfOk, OnErr, OnOk, bit_and, length};
+ghost use Rattle.hv_cpu.specs.Lines.{lines_mask};
+ghost use Rattle.hv_irq.specs.Events.{hart_of, mask_of, total_of};
+ghost use Rattle.hv_nest.specs.Move.{last_of};
+ghost use Rattle.hv_run.specs.Record.{record_of, schedule};
+ghost use Rattle.hv_run.specs.Stands.{CanWatch, watches_of};
+
+use crate::moving::Play;
+use crate::record::Record;
+use hv_irq::Event;
+use hv_map::Watch;
+use hv_nest::Nested;
+use std::alloc::{AllocError, Global};
+
+/// Plays events in order, from the engine's present state, and answers what is told of them. After want of memory nothing was
+/// played. The watches are as for `Play::new`; each event's hart is there, its mask has no bit but 0x888, and the turns take
+/// at most 1,000,000,000 steps together.
+pub fn play<N: Nested>(
+    alloc: Global,
+    nested: &mut N,
+    events: &[Event],
+    watches: &[Watch],
+) -> Result<Record, AllocError>
+    requires watches { CanWatch (N.state nested.old) (watches_of watches.now) }
+    requires number { length watches.now ≤ 16 }
+    requires harts { All (λ event. hart_of event < length (N.state nested.old).harts) events.now }
+    requires masks { All (λ event. bit_and (mask_of event) lines_mask ≡ mask_of event) events.now }
+    requires many { length events.now ≤ 65536 }
+    requires steps { total_of events.now ≤ 1000000000 }
+    ensures record { IfOk result (λ r. r ≡ record_of (N.state nested.old) (schedule events.now) (watches_of watches.now)) }
+    ensures state { OnOk result (N.state nested.new ≡ last_of (N.state nested.old) (schedule events.now)) }
+    ensures err { OnErr result (N.state nested.new ≡ N.state nested.old) }
+{
+    let mut play = Play::new(alloc, nested, watches)?;
+    for event in events {
+        play.event(nested, *event);
+    }
+    Ok(play.finish())
+}

@@ -1,0 +1,258 @@
+//! One watch of a play.
+
+ghost use Rattle.std.specs.Prelude.{◌≡◌, ◌<◌, ◌≤◌, ◌*◌, ◌^◌, ◌||◌, ◌++◌, ◌∷◌, [], IfOk, length, take, vec_capacity};
+ghost use Rattle.hv_word.specs.Storage.{word_at};
+ghost use Rattle.hv_map.specs.Apart.{is_one, is_apart};
+ghost use Rattle.hv_map.specs.Chain.{map_along};
+ghost use Rattle.hv_nest.specs.Watched.{foot, is_outside, last_block};
+ghost use Rattle.hv_run.specs.Play.{any_marked, counts_for, rows_of, status_at, status_differs, touches, watched_after, watching_after, watching_beside};
+ghost use Rattle.hv_run.specs.Fits.{FitsRows};
+ghost use Rattle.hv_run.specs.Record.{kept_limit};
+
+use crate::faults::KEPT;
+use crate::happened::Happened;
+use crate::record::WatchRow;
+use crate::rows::Rows;
+use hv_apart::Footing;
+use hv_cpu::LINES_MASK;
+use hv_map::{Chain, Path};
+use hv_nest::{Changed, LineRow, Nested, StepKind};
+use hv_store::Store;
+use std::alloc::{AllocError, Global};
+use std::marker::Model;
+
+/// A watch while it is played: what is told of it so far, the foot of its machine as the start had it, and the present word
+/// with the machine's interrupt lines: word 42 of the bare page in which its control block stood at the start, or mip of its
+/// hart for the bare machine.
+#[derive(Drop)]
+pub(crate) struct Watched {
+    pub(crate) hart: u32,
+    pub(crate) path: Path,
+    pub(crate) block: Option<u32>,
+    pub(crate) one: bool,
+    pub(crate) apart: bool,
+    pub(crate) touched: bool,
+    pub(crate) count: u64,
+    pub(crate) line_total: u64,
+    pub(crate) lines: Vec<LineRow>,
+    pub(crate) foot: Footing,
+    pub(crate) status: u32,
+}
+
+impl Model for Watched {
+    ghost use Rattle.std.specs.Prelude.{◌≤◌, length, vec_capacity};
+    ghost use Rattle.hv_run.specs.Record.{kept_limit};
+    ghost use Rattle.hv_run.specs.Play.{Watching};
+
+    ghost Value = { Watching };
+
+    ghost view = { λ w. record {
+      told = record {
+        hart = w.hart;
+        path = w.path;
+        block = w.block;
+        one = w.one;
+        apart = w.apart;
+        touched = w.touched;
+        count = w.count;
+        line_total = w.line_total;
+        lines = w.lines.items;
+      };
+      foot = w.foot;
+      status = w.status;
+    } };
+
+    ghost invariant = { λ w. (length w.lines.items ≤ kept_limit) × (kept_limit ≤ vec_capacity w.lines) };
+}
+
+impl Watched {
+    /// What is told of the watch.
+    pub(crate) fn into_row(self) -> WatchRow
+        ensures { result ≡ self.told }
+    {
+        WatchRow {
+            hart: self.hart,
+            path: self.path,
+            block: self.block,
+            one: self.one,
+            apart: self.apart,
+            touched: self.touched,
+            count: self.count,
+            line_total: self.line_total,
+            lines: Rows::new(self.lines),
+        }
+    }
+
+    // The word with the machine's interrupt lines, as the engine has it now.
+    fn status_now<N: Nested>(&self, nested: &N) -> u32
+        ensures { result ≡ status_at self.now.told.hart self.now.told.block (N.state nested.now) }
+    {
+        status_of(nested, self.hart, self.block)
+    }
+
+    // Whether a move counts for the watch.
+    #[tactic(auto, using(crate::proofs::Begins::starts_begins))]
+    fn counts(&self, happened: &Happened) -> bool
+        ensures { result ≡ counts_for self.now.told happened.now }
+    {
+        match happened {
+            Happened::Stepped {
+                hart,
+                running,
+                kind,
+                changed: _,
+            } => {
+                *hart == self.hart
+                    && self.path.begins(running)
+                    && !is_outside(self.path.len(), *kind)
+            }
+            Happened::Lined => false,
+        }
+    }
+
+    // Whether a move, after which the word with the lines is `status`, changed a word of the machine's foot.
+    fn touches(&self, happened: &Happened, status: u32) -> bool
+        requires { FitsRows happened.now }
+        ensures { result ≡ touches self.now happened.now status }
+    {
+        any_marked(&self.foot, happened) || status_differs(self.block, self.status, status)
+    }
+
+    // Tells a move, after which the word with the lines is `status`.
+    fn note(&mut self, happened: &Happened, status: u32)
+        requires fits { FitsRows happened.now }
+        requires count { self.old.told.count < 2 ^ 62 }
+        requires total { self.old.told.line_total < 2 ^ 62 }
+        ensures { self.new ≡ watching_after happened.now status self.old }
+    {
+        if self.counts(happened) {
+            self.count += 1;
+            self.status = status;
+            return;
+        }
+        let touches = self.touches(happened, status);
+        self.note_beside(touches, status);
+    }
+
+    // Tells a move that doesn't count: whether it touches the machine, and the word with the lines after it.
+    fn note_beside(&mut self, touches: bool, status: u32)
+        requires { self.old.told.line_total < 2 ^ 62 }
+        ensures { self.new ≡ watching_beside touches status self.old }
+    {
+        let bits = status & LINES_MASK;
+        self.touched = either(self.touched, touches);
+        if self.status & LINES_MASK == bits {
+            self.status = status;
+            return;
+        }
+        self.line_total += 1;
+        keep_change(
+            &mut self.lines,
+            LineRow {
+                count: self.count,
+                bits,
+            },
+        );
+        self.status = status;
+    }
+
+    /// Tells a move, after which the engine is as it is now.
+    pub(crate) fn tell<N: Nested>(&mut self, nested: &N, happened: &Happened)
+        requires fits { FitsRows happened.now }
+        requires count { self.old.told.count < 2 ^ 62 }
+        requires total { self.old.told.line_total < 2 ^ 62 }
+        ensures { self.new ≡ watched_after happened.now (N.state nested.now) self.old }
+    {
+        let status = self.status_now(nested);
+        self.note(happened, status);
+    }
+}
+
+// Keeps a change of the lines, while as many aren't kept yet.
+fn keep_change(lines: &mut Vec<LineRow>, row: LineRow)
+    requires bound { length lines.old.items ≤ kept_limit }
+    requires room { kept_limit ≤ vec_capacity lines.old }
+    ensures items { lines.new.items ≡ take kept_limit (lines.old.items ++ row ∷ []) }
+    ensures bound { length lines.new.items ≤ kept_limit }
+    ensures room { vec_capacity lines.old ≤ vec_capacity lines.new }
+{
+    if lines.len() < KEPT {
+        let _ = lines.push(row);
+    }
+}
+
+// Whether one of the two holds.
+fn either(a: bool, b: bool) -> bool
+    ensures { result ≡ (a || b) }
+{
+    a || b
+}
+
+// The word with the interrupt lines of a machine whose block is in that bare page, or of the hart.
+pub(crate) fn status_of<N: Nested>(nested: &N, hart: u32, block: Option<u32>) -> u32
+    ensures { result ≡ status_at hart block (N.state nested.now) }
+{
+    match block {
+        Some(page) => word_at(nested.parked(), page),
+        None => {
+            if hart < nested.harts() {
+                nested.cpu(hart).mip
+            } else {
+                0
+            }
+        }
+    }
+}
+
+// Word 42 of a bare page, 0 where there is no such page.
+fn word_at(store: &Store, page: u32) -> u32
+    ensures { result ≡ word_at store.now page 42 }
+{
+    let pages = store.pages();
+    if page < pages {
+        store.get(1024 * page + 42)
+    } else {
+        0
+    }
+}
+
+// Whether the word with the lines changed in another bit than the lines; of the bare machine it doesn't matter.
+fn status_differs(block: Option<u32>, old: u32, new: u32) -> bool
+    ensures { result ≡ status_differs block old new }
+{
+    block.is_some() && old - (old & LINES_MASK) != new - (new & LINES_MASK)
+}
+
+// Whether a move changed a word that the foot has.
+fn any_marked(foot: &Footing, happened: &Happened) -> bool
+    requires { FitsRows happened.now }
+    ensures { result ≡ any_marked foot.now (rows_of happened.now) }
+{
+    let Happened::Stepped { changed, .. } = happened else {
+        return false;
+    };
+    any_changed(foot, changed)
+}
+
+// Whether one of the words that changed is in the foot.
+fn any_changed(foot: &Footing, changed: &Changed) -> bool
+    requires { changed.now.len ≤ 8 }
+    ensures { result ≡ any_marked foot.now (take changed.now.len changed.now.rows) }
+{
+    for row in &changed.rows[..changed.len as usize] {
+        if foot.holds(row.at) {
+            return true;
+        }
+    }
+    false
+}
+
+// Whether a recall or a fault was received at a level below `level`.
+fn is_outside(level: u32, kind: StepKind) -> bool
+    ensures { result ≡ is_outside level kind }
+{
+    match kind {
+        StepKind::Worked => false,
+        StepKind::Recall { receiver } | StepKind::Fault { receiver, .. } => receiver < level,
+    }
+}

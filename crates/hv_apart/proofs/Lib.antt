@@ -1,5 +1,6 @@
 pub mod Adding
 pub mod BitSets
+pub mod Clearing
 pub mod Feet
 pub mod Growing
 pub mod Joining

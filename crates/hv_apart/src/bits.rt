@@ -1,6 +1,6 @@
 //! Sets of numbers, a bit for each.
 
-ghost use Rattle.std.specs.Prelude.{◌≡◌, ℕ, ◌/◌, ◌<◌, ◌==◌, ◌||◌, length};
+ghost use Rattle.std.specs.Prelude.{◌≡◌, ℕ, ◌/◌, ◌<◌, ◌==◌, ◌||◌, ◌&&◌, not, length};
 ghost use Rattle.hv_apart.specs.Marked.{is_marked};
 
 /// Whether a number is in the set.
@@ -26,4 +26,16 @@ pub(crate) fn set(words: &mut [u32], at: u32) -> bool
     let word = words[i];
     words[i] = word | 1 << (at % 32);
     word >> (at % 32) & 1 == 1
+}
+
+/// Takes a number out of the set.
+#[tactic(auto, using(crate::proofs::Clearing::clearings))]
+pub(crate) fn clear(words: &mut [u32], at: u32)
+    requires { at / 32 < length words.old }
+    ensures cleared { (a : ℕ) → is_marked words.new a ≡ not (a == at) && is_marked words.old a }
+    ensures length { length words.new ≡ length words.old }
+{
+    let i = at as usize / 32;
+    let word = words[i];
+    words[i] = word & !(1 << (at % 32));
 }

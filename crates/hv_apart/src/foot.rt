@@ -1,16 +1,16 @@
 //! The places of the words that are a machine's own.
 
-ghost use Rattle.std.specs.Prelude.{◌≡◌, ◌+◌, ◌*◌, ◌<◌, ◌≤◌, ◌^◌, IfOk, IfSome, Some, length, map};
+ghost use Rattle.std.specs.Prelude.{◌≡◌, ◌+◌, ◌*◌, ◌<◌, ◌≤◌, ◌^◌, IfOk, IfSome, List, Some, [], length, map, ℕ};
 ghost use Rattle.std.specs.Option.{option_to_list};
 ghost use Rattle.hv_word.specs.Storage.{page_count};
 ghost use Rattle.hv_store.specs.Access.{identity};
 ghost use Rattle.hv_map.specs.Chain.{map_along, pinned};
 ghost use Rattle.hv_map.specs.Links.{syllable_of};
-ghost use Rattle.hv_nest.specs.Watched.{chain_foot, foot, item_foot, last_block, own_places, page_foot};
+ghost use Rattle.hv_nest.specs.Watched.{but_lines, chain_foot, foot, item_foot, last_block, own_places, page_foot, standing_places};
 ghost use Rattle.hv_apart.specs.Marked.{Joined, SetOf, is_marked};
 ghost use Rattle.hv_apart.specs.Table.{machine_of, places_in, table_places};
 
-use crate::bits::{is_set, set};
+use crate::bits::{clear, is_set, set};
 use crate::pages::{directory, prefix, read_at, table_page};
 use hv_map::{Chain, ChainItem};
 use hv_store::Store;
@@ -18,8 +18,8 @@ use std::alloc::{AllocError, Global};
 use std::marker::Model;
 
 /// The places of the words that no other machine may change, for one machine in a store as it was, a bit for each bare word:
-/// the words that the machines on its chain, and the tables of those, are read from, those of its own control block but word
-/// 42, which has its interrupt lines too, and all words of the pages that it can read.
+/// the words that the machines on its chain, and the tables of those, are read from, those of its own control block, and all
+/// words of the pages that it can read; but never word 42 of its block, which has its interrupt lines too.
 #[derive(Drop)]
 pub struct Footing {
     words: Vec<u32>,
@@ -52,15 +52,38 @@ impl Footing {
     }
 }
 
-// Puts the machine's places into the set.
+// Puts the machine's places into an empty set.
 fn put_foot(words: &mut [u32], store: &Store, chain: &Chain)
     requires pinned { pinned store.now (map syllable_of chain.now) ≡ Some chain.now }
     requires room { length words.old ≡ 32 * page_count store.now }
-    ensures { Joined words.old words.new (foot store.now chain.now) }
+    ensures { SetOf words.old [] → SetOf words.new (foot store.now chain.now) }
+{
+    put_places(words, store, chain);
+    drop_lines(words, store, chain);
+}
+
+// Puts the places of all words that the machine stands on into the set.
+fn put_places(words: &mut [u32], store: &Store, chain: &Chain)
+    requires pinned { pinned store.now (map syllable_of chain.now) ≡ Some chain.now }
+    requires room { length words.old ≡ 32 * page_count store.now }
+    ensures { Joined words.old words.new (standing_places store.now chain.now) }
 {
     put_items(words, store, chain);
     put_own(words, store, chain);
     put_pages(words, store, chain);
+}
+
+// Takes the word that has the machine's interrupt lines out of the set: a machine that sees its own block would bring it in.
+fn drop_lines(words: &mut [u32], store: &Store, chain: &Chain)
+    requires pinned { pinned store.now (map syllable_of chain.now) ≡ Some chain.now }
+    requires room { length words.old ≡ 32 * page_count store.now }
+    ensures { (xs : List ℕ) → SetOf words.old xs → SetOf words.new (but_lines (last_block chain.now) xs) }
+{
+    let _pages = store.pages();
+    let Some(block) = block_of_last(store, chain) else {
+        return;
+    };
+    clear(words, 1024 * block + 42);
 }
 
 // The words that the maps along the chain are read from.

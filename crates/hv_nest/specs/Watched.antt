@@ -71,11 +71,25 @@ own_places (Some g) = places g (range_with_len 0 42 ++ (range_with_len 43 6 ++ 6
 abbrev pub page_foot : List Slot → List ℕ
 page_foot F = flat_map (λ g. places g (range_with_len 0 1024)) (open_pages F)
 
--- The foot of the machine at the end of the items, in the storage S at the start: the places of the words that no other
--- machine may change. Word 42 of its block belongs to it too, without the lines.
-unfoldable pub foot : List ℕ → List Item → List ℕ
-foot S items =
+-- the places of all words that the machine at the end of the items stands on
+unfoldable pub standing_places : List ℕ → List Item → List ℕ
+standing_places S items =
     chain_foot S (identity (page_count S)) 0 items ++ (own_places (last_block items) ++ page_foot (map_along S items))
+
+-- a list without a number
+unfoldable pub without : ℕ → List ℕ → List ℕ
+without a [] = []
+without a (b ∷ bs) = if b == a then without a bs else b ∷ without a bs
+
+-- places without that of the word of a block that has the interrupt lines, wherever else they have it from
+abbrev pub but_lines : Option ℕ → List ℕ → List ℕ
+but_lines None places = places
+but_lines (Some g) places = without (1024 * g + 42) places
+
+-- The foot of the machine at the end of the items, in the storage S at the start: the places of the words that no other
+-- machine may change. Word 42 of its block belongs to it too, without the lines, also where the machine sees its own block.
+unfoldable pub foot : List ℕ → List Item → List ℕ
+foot S items = but_lines (last_block items) (standing_places S items)
 
 -- the words at those places are the same in two storages
 unfoldable pub are_same : List ℕ → List ℕ → List ℕ → Bool

@@ -196,6 +196,7 @@ stands_more p start st ms ws move next h tells stands is =
     ap (λ (c : Counts). counts_after c h) counts ∙ sym (here.numbers C) ∙ ap numbers (sym (count_more start ms move no_count)) in (
       record {
         watched = stands.watched;
+        few = stands.few;
         told =
             ap (λ (c : Counts). told_numbers c (rows_told (all_after h next p.watching))) counted
             ∙ ap (told_numbers (numbers (count_of start (ms ++ move ∷ []) no_count))) each.0

@@ -72,11 +72,12 @@ nothing_told : (start : State) (ws : List WatchOf) (rows : List WatchTold) → r
 unfolding record_of count_of
 nothing_told start ws rows e = ap (λ (rows : List WatchTold). record { steps = 0; faults = 0; recalls = 0; kept = []; watches = rows }) e
 
-pub stands_new : (start : State) (p : Played) (ws : List WatchOf) → CanWatch start ws → p.counts ≡ record { steps = 0; faults = 0; recalls = 0; kept = [] } → EachNew start ws p.watching → StandsFor p start [] ws
-stands_new start p ws can counts each =
+pub stands_new : (start : State) (p : Played) (ws : List WatchOf) → CanWatch start ws → length ws ≤ 16 → p.counts ≡ record { steps = 0; faults = 0; recalls = 0; kept = [] } → EachNew start ws p.watching → StandsFor p start [] ws
+stands_new start p ws can few counts each =
     let none = all_none start ws p.watching each in
     record {
       watched = can;
+      few = few;
       told =
           ap (λ (c : Counts). record { steps = c.steps; faults = c.faults; recalls = c.recalls; kept = c.kept; watches = rows_told p.watching }) counts
           ∙ nothing_told start ws (rows_told p.watching) none.0;

@@ -70,6 +70,7 @@ EachNew start (w ∷ ws) (k ∷ ks) = IsNew start w k × EachNew start ws ks
 -- it tells is what is told of the moves, and it keeps of each watch what belongs to the start and to the last state.
 pub record StandsFor (play : Played) (start : State) (moves : List Move) (watches : List WatchOf) : Type 0 where
   pub watched : CanWatch start watches
+  pub few : length watches ≤ 16
   pub told : told_of play ≡ record_of start moves watches
   pub kept : EachKept start (last_of start moves) watches play.watching
 

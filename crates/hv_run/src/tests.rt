@@ -182,3 +182,47 @@ fn keeps_faults_while_it_plays(rt: HostRuntime) -> Result<(), Fail> {
     assert_eq!(rt; play.finish().steps, 5);
     Ok(())
 }
+
+// A machine of two pages on page 1, whose second page is its own control block. The machine around it raises the timer's line
+// in that block.
+fn seen_block(alloc: Global) -> Result<Store, AllocError> {
+    let mut store = Store::new(alloc, 5)?;
+    lay(&mut store, 0, &[0x0000_12B7, 0x0800_0313, 0x0A62_A423]);
+    lay(&mut store, 1024 + 32, &[3]);
+    lay(&mut store, 1024 + 65, &[2, 2]);
+    lay(&mut store, 2048, &[0x3003, 0x1003]);
+    Ok(store)
+}
+
+// Plays three steps of that, watching the machine. None where it isn't there.
+fn play_seen_block(alloc: Global, store: Store) -> Result<Option<Record>, AllocError> {
+    let mut path = Path::new();
+    path.push(1);
+    let Some(chain) = pin(&store, &path) else {
+        return Ok(None);
+    };
+    if chain.pages(&store) > 16384 {
+        return Ok(None);
+    }
+    let mut plain = Plain::new(store, Harts::new(1));
+    let events = [Event::Turn { hart: 0, count: 3 }];
+    let watches = [Watch { hart: 0, path }];
+    let record = play(alloc, &mut plain, &events, &watches)?;
+    Ok(Some(record))
+}
+
+#[test]
+fn tells_a_line_in_a_block_that_is_seen(rt: HostRuntime) -> Result<(), Fail> {
+    let store = seen_block(rt.alloc())?;
+    let record = play_seen_block(rt.alloc(), store)?.ok_or("no machine")?;
+    for row in record.watches.as_slice() {
+        assert!(rt; row.one && !row.apart && !row.touched);
+        assert_eq!(rt; row.count, 0);
+        assert_eq!(rt; row.line_total, 1);
+        for change in row.lines.as_slice() {
+            assert_eq!(rt; change.count, 0);
+            assert_eq!(rt; change.bits, 0x80);
+        }
+    }
+    Ok(())
+}

@@ -1,20 +1,10 @@
--- Those three parts are the foot.
-use Rattle.std.proofs.Common.{◌++◌, refl}
-use Rattle.hv_word.specs.Storage.{page_count}
-use Rattle.hv_store.specs.Access.{identity}
-use Rattle.hv_map.specs.Chain.{map_along}
-use Rattle.hv_nest.specs.Watched.{chain_foot, foot, last_block, own_places, page_foot}
-use Rattle.hv_apart.proofs.Joining.{joined_more}
+-- All that the machine stands on, but the word with its lines.
+use Rattle.hv_nest.specs.Watched.{foot, standing_places}
+use Rattle.hv_apart.proofs.Clearing.{set_joined}
 use Rattle.hv_apart.proofs.foot.put_foot.Goals as goal
 
 pub returns : goal.returns
 unfolding foot
-returns c =
-    let S = c.args.store.now in
-    let items = c.args.chain.now in
-    let first = chain_foot S (identity (page_count S)) 0 items in
-    let own = own_places (last_block items) in
-    let pages = page_foot (map_along S items) in
-    joined_more _ _ _ first (own ++ pages) _ c.put_items.ensures
-    (joined_more _ _ _ own pages (own ++ pages) c.put_own.ensures c.put_pages.ensures refl)
-    refl
+returns c = λ none.
+    c.drop_lines.ensures (standing_places c.args.store.now c.args.chain.now)
+    (set_joined c.args.words.now c.put_places.new.words _ none c.put_places.ensures)

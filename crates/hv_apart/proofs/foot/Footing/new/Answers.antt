@@ -1,9 +1,9 @@
 -- What was put into an empty set.
-use Rattle.std.proofs.Common.{◌≡◌, ◌*◌, ◌++◌, List, ℕ, length, replicate, take, drop, vec_len, ap, subst, sym, ◌∙◌}
+use Rattle.std.proofs.Common.{◌≡◌, ◌*◌, ◌++◌, List, [], ℕ, length, replicate, take, drop, vec_len, ap, subst, sym, ◌∙◌}
 use Rattle.std.proofs.Math.Seq.{take-append_seam}
 use Rattle.hv_nest.specs.Watched.{foot}
-use Rattle.hv_apart.specs.Marked.{SetOf, Joined}
-use Rattle.hv_apart.proofs.Joining.{set_of_joined}
+use Rattle.hv_apart.specs.Marked.{SetOf}
+use Rattle.hv_apart.proofs.BitSets.{marks_none}
 use Rattle.hv_apart.proofs.foot.Footing.new.Goals as goal
 
 pub returns : goal.returns
@@ -19,7 +19,7 @@ returns c =
     let whole : now ≡ take (vec_len made) (now ++ rest) =
     sym (take-append_seam now rest) ∙ ap (λ (n : ℕ). take n (now ++ rest)) same
     in
-    let joined : Joined (replicate (32 * c.pages.result) 0) now ys =
-    subst (λ (ws : List ℕ). Joined ws now ys) zeros c.put_foot.ensures
+    let none : SetOf c.deref_mut.result.now [] =
+    subst (λ (ws : List ℕ). SetOf ws []) (sym zeros) (marks_none (32 * c.pages.result))
     in
-    subst (λ (ws : List ℕ). SetOf ws ys) whole (set_of_joined (32 * c.pages.result) now ys joined)
+    subst (λ (ws : List ℕ). SetOf ws ys) whole (c.put_foot.ensures none)

@@ -1,3 +1,4 @@
 pub mod Decoding
 pub mod Naming
 pub mod Spelling
+pub mod Registers

@@ -1,2 +1,3 @@
+pub mod Csrs
 pub mod Names
 pub mod Table

@@ -7,8 +7,10 @@ ghost use Rattle.hv_isa.specs.Table.{Fits, NamesRegs, Row, decode_of, row_of, sp
 ghost use Rattle.hv_isa.specs.declared.Instr.{Instr};
 ghost use Rattle.hv_isa.specs.declared.Op.{Op};
 
+mod csrs;
 mod formats;
 
+pub use csrs::{csr_by_name, csr_name};
 use formats::{
     read_branch, read_control, read_immediate, read_jump, read_pair, read_registers, read_shift,
     read_source, read_store, read_upper, read_whole, spell_branch, spell_control, spell_immediate,
@@ -396,5 +398,13 @@ mod tests {
         assert_eq!(rt; name(Op::FenceI), "fence.i");
         assert_eq!(rt; by_name("sfence.vma"), Some(Op::SfenceVma));
         assert_eq!(rt; by_name("ADDI"), None);
+    }
+
+    #[test]
+    fn names_registers(rt: HostRuntime) {
+        assert_eq!(rt; csr_name(0x180), Some("satp"));
+        assert_eq!(rt; csr_name(0xc00), None);
+        assert_eq!(rt; csr_by_name("mhartid"), Some(0xf14));
+        assert_eq!(rt; csr_by_name("cycle"), None);
     }
 }

@@ -1,0 +1,11 @@
+pub mod Amounts
+pub mod Forms
+pub mod Names
+pub mod Operands
+pub mod Rows
+pub mod Labels
+pub mod Words
+pub mod Emitted
+pub mod Assembly
+pub mod Seen
+pub mod Answer

@@ -1,0 +1,175 @@
+//! The assembler: the words of a text of assembly.
+#![tactic(auto)]
+
+ghost use Rattle.std.specs.Prelude.{◌≡◌, ◌+◌, ◌%◌, ◌<◌, ◌^◌, length};
+ghost use Rattle.hv_asm.specs.Answer.{GivesImage, GivesWords, ended};
+ghost use Rattle.hv_asm.specs.Assembly.{asm_of, words_from};
+ghost use Rattle.hv_asm.specs.Labels.{place_in};
+ghost use Rattle.hv_lex.specs.Lines.{lines_of};
+
+mod amounts;
+mod assembled;
+mod emits;
+mod forms;
+mod labels;
+mod lines;
+mod names;
+mod operands;
+mod places;
+mod rows;
+
+use assembled::{Spot, push_line};
+use emits::LineEnd;
+use hv_lex::first_line;
+use labels::Labels;
+use lines::{read_line, size};
+use places::find_labels;
+use std::alloc::{AllocError, Global};
+use std::marker::Model;
+
+/// Why a line is refused, in the order of the tests.
+#[derive(Clone, Copy, Debug, PartialEq, Eq)]
+pub enum AsmKind {
+    /// A byte is in no token, or may not stand in a comment.
+    Byte,
+    /// A number is none, or the tokens make no line.
+    Syntax,
+    /// The label was defined on an earlier line.
+    Repeat,
+    /// No operation has this name.
+    Mnemonic,
+    /// The operands are too few, too many, or of another kind.
+    Operand,
+    /// A label isn't defined.
+    Label,
+    /// A number is outside its range, or the words are too many or pass the last address.
+    Range,
+}
+
+/// Why a text has no words.
+#[derive(Clone, Copy, Debug, PartialEq, Eq)]
+pub enum AsmEnd {
+    /// The line of this number is refused; lines are numbered from 1.
+    AsmFault { line: u32, kind: AsmKind },
+    /// Memory is wanting.
+    Memory,
+}
+
+impl From<AllocError> for AsmEnd {
+    ghost use Rattle.std.specs.Prelude.{◌≡◌};
+    ghost use Rattle.hv_asm.specs.declared.AsmEnd.TheVariants.{Memory};
+
+    ghost from_gives = { λ _ end. end ≡ Memory };
+
+    fn from(_error: AllocError) -> AsmEnd {
+        AsmEnd::Memory
+    }
+}
+
+/// The words of an image. It is seen as the list of these.
+#[derive(Drop)]
+pub struct Words {
+    words: Vec<u32>,
+}
+
+impl Model for Words {
+    ghost use Rattle.std.specs.Prelude.{ℕ, List};
+
+    ghost Value = { List ℕ };
+
+    ghost view = { λ w. w.words.items };
+}
+
+impl Words {
+    /// The words of a list.
+    pub fn new(words: Vec<u32>) -> Words
+        ensures { result ≡ words.items }
+    {
+        Words { words }
+    }
+
+    /// The words, from the first address on.
+    pub fn as_slice(&self) -> &[u32]
+        ensures { result.now ≡ self.now }
+    {
+        self.words.as_slice()
+    }
+
+    /// The list of the words.
+    pub fn into_vec(self) -> Vec<u32>
+        ensures { result.items ≡ self }
+    {
+        self.words
+    }
+}
+
+/// Words, and the address of the first of them.
+#[derive(Drop)]
+pub struct Image {
+    pub base: u32,
+    pub words: Words,
+}
+
+/// The words of a text of assembly whose first address is the base, a multiple of 4. A refusal is that of the least
+/// line that is refused. A text has at most 2^32 - 2 bytes.
+#[tactic(auto, unfolding(crate::specs::Assembly::asm_of))]
+pub fn assemble(alloc: Global, text: &[u8], base: u32) -> Result<Image, AsmEnd>
+    requires aligned { base % 4 ≡ 0 }
+    requires length { length text.now + 1 < 2 ^ 32 }
+    ensures { GivesImage base result (asm_of text.now base) }
+{
+    let labels = find_labels(alloc, text, base)?;
+    let words = assemble_lines(alloc, &labels, text, base)?;
+    Ok(Image {
+        base,
+        words: Words::new(words),
+    })
+}
+
+// The words of the lines, with these labels.
+fn assemble_lines(
+    alloc: Global,
+    labels: &Labels,
+    text: &[u8],
+    base: u32,
+) -> Result<Vec<u32>, AsmEnd>
+    requires { length text.now + 1 < 2 ^ 32 }
+    ensures { GivesWords result (words_from (place_in labels.now) base 1 base (lines_of text.now)) }
+{
+    let mut words = Vec::new(alloc);
+    let mut rest = text;
+    let mut number = 1;
+    let mut at = u64::from(base);
+    while !rest.is_empty() {
+        let (line, behind) = first_line(rest);
+        let read = read_line(alloc, line)?;
+        let end = at + size(&read.body);
+        let spot = Spot {
+            base,
+            number,
+            at,
+            end,
+        };
+        match push_line(&mut words, labels, spot, line, &read) {
+            Ok(()) => {}
+            Err(end) => return Err(at_line(end, number)),
+        }
+        at = end;
+        number += 1;
+        rest = behind;
+    }
+    Ok(words)
+}
+
+// The end of a text at a line.
+fn at_line(end: LineEnd, line: u32) -> AsmEnd
+    ensures { result ≡ ended end line }
+{
+    match end {
+        LineEnd::Fault(kind) => AsmEnd::AsmFault { line, kind },
+        LineEnd::Memory => AsmEnd::Memory,
+    }
+}
+
+#[cfg(test)]
+mod tests;

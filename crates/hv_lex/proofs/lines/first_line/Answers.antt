@@ -1,0 +1,5 @@
+use Rattle.hv_lex.proofs.LineCuts.{line_first}
+use Rattle.hv_lex.proofs.lines.first_line.Goals as goal
+
+pub returns-clause-cut : goal.returns-clause-cut
+returns-clause-cut c = line_first _ _ _ _ c.first_cut.ensures.cut c.returned.ensures.value

@@ -1,0 +1,22 @@
+-- A text as its lines.
+use Rattle.std.specs.Prelude.{ℕ, ◌==◌, if◌then◌else◌, List, [], ◌∷◌, map}
+
+-- the lists with c at the front of the first of them; where there is none, a list of its own
+abbrev pub onto : ℕ → List (List ℕ) → List (List ℕ)
+onto c [] = (c ∷ []) ∷ []
+onto c (piece ∷ pieces) = (c ∷ piece) ∷ pieces
+
+-- A line feed, byte 10, ends each line; the last one may lack it where it isn't empty.
+unfoldable pub cut_of : List ℕ → List (List ℕ)
+cut_of [] = []
+cut_of (c ∷ cs) = if c == 10 then [] ∷ cut_of cs else onto c (cut_of cs)
+
+-- the line without the carriage return at its end, byte 13, if one is there
+unfoldable pub returned : List ℕ → List ℕ
+returned [] = []
+returned (c ∷ []) = if c == 13 then [] else c ∷ []
+returned (c ∷ d ∷ ds) = c ∷ returned (d ∷ ds)
+
+-- the lines of a text
+unfoldable pub lines_of : List ℕ → List (List ℕ)
+lines_of text = map returned (cut_of text)

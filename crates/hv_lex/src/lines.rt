@@ -1,0 +1,55 @@
+//! Cutting a text into lines.
+
+ghost use Rattle.std.specs.Prelude.{◌≡◌, ◌≢◌, ℕ, ◌+◌, ◌<◌, ◌≤◌, ◌∷◌, length, slice_index};
+ghost use Rattle.hv_lex.specs.Lines.{cut_of, lines_of, returned as returned_of};
+
+/// The first line of a text, without its line feed and without a carriage return at its end, and the text behind it.
+pub fn first_line(text: &[u8]) -> (&[u8], &[u8])
+    requires { 0 < length text.now }
+    ensures cut { lines_of text.now ≡ result.0.now ∷ lines_of result.1.now }
+    ensures shorter { length result.0.now + length result.1.now ≤ length text.now }
+    ensures behind { length result.1.now < length text.now }
+{
+    let (line, rest) = first_cut(text);
+    (returned(line), rest)
+}
+
+// The first line with its carriage return, and the text behind it.
+fn first_cut(text: &[u8]) -> (&[u8], &[u8])
+    requires { 0 < length text.now }
+    ensures cut { cut_of text.now ≡ result.0.now ∷ cut_of result.1.now }
+    ensures shorter { length result.0.now + length result.1.now ≤ length text.now }
+    ensures behind { length result.1.now < length text.now }
+{
+    let end = find(text, b'\n');
+    let (line, rest) = text.split_at(end);
+    match rest.split_first() {
+        Some((_, rest)) => (line, rest),
+        None => (line, rest),
+    }
+}
+
+// The line without the carriage return at its end.
+fn returned(line: &[u8]) -> &[u8]
+    ensures value { result.now ≡ returned_of line.now }
+    ensures shorter { length result.now ≤ length line.now }
+{
+    let Some((last, front)) = line.split_last() else {
+        return line;
+    };
+    if *last == b'\r' { front } else { line }
+}
+
+// The place of the first byte that is `wanted`, or the length where there is none.
+fn find(bytes: &[u8], wanted: u8) -> usize
+    ensures within { result ≤ length bytes.now }
+    ensures before { (k : ℕ) → k < result → slice_index bytes.now k ≢ wanted }
+    ensures found { result < length bytes.now → slice_index bytes.now result ≡ wanted }
+{
+    for (i, byte) in bytes.iter().enumerate() {
+        if *byte == wanted {
+            return i;
+        }
+    }
+    bytes.len()
+}

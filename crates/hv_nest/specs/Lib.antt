@@ -1,4 +1,5 @@
 pub mod Asks
+pub mod Bare
 pub mod Beyond
 pub mod Changes
 pub mod Frame

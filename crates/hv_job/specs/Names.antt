@@ -1,0 +1,16 @@
+-- Names of machines.
+use Rattle.std.specs.Prelude.{ℕ, Bool, false, ◌==◌, ◌&&◌, ◌||◌, nat_le, List, [], ◌∷◌, length}
+use Rattle.std.specs.List.{list_all}
+
+-- a letter a to z
+abbrev pub is_letter : ℕ → Bool
+is_letter c = nat_le 97 c && nat_le c 122
+
+-- a letter a to z, a digit or `_`
+abbrev pub is_name_byte : ℕ → Bool
+is_name_byte c = is_letter c || ((nat_le 48 c && nat_le c 57) || c == 95)
+
+-- a letter, followed by at most 15 letters, digits or `_`
+abbrev pub is_name : List ℕ → Bool
+is_name [] = false
+is_name (c ∷ cs) = is_letter c && (nat_le (length cs) 15 && list_all is_name_byte cs)

@@ -8,5 +8,11 @@ pub mod Received
 pub mod Refused
 pub mod Routes
 pub mod Rows
+pub mod SimulatedActs
+pub mod SimulatedAsks
+pub mod SimulatedPuts
+pub mod SimulatedSteps
+pub mod SimulatedWalks
+pub mod SimulationLaws
 pub mod Told
 pub mod Undone

@@ -8,6 +8,7 @@ pub mod Move
 pub mod Notes
 pub mod Received
 pub mod Routing
+pub mod Simulation
 pub mod State
 pub mod Step
 pub mod Watched

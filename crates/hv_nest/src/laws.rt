@@ -2,6 +2,7 @@
 
 ghost use Rattle.hv_nest.specs.Received.{ReceivedLaw};
 ghost use Rattle.hv_nest.specs.Routing.{RoutingLaw};
+ghost use Rattle.hv_nest.specs.Simulation.{InnerSimulationLaw, SimulationLaw};
 
 /// Every refusal of a map is told to the machine whose map refused first, a malformed block to the machine that holds it, and
 /// a machine too deep to run another to the bare machine; where a machine on the running path has a pending interrupt,
@@ -14,4 +15,11 @@ pub fn faults_are_routed()
 /// machine that receives it, and the three words by which one block tells of the fault. No refusal passes the bare machine.
 pub fn refused_steps_change_only_what_is_told()
     ensures { ReceivedLaw }
+{}
+
+/// A machine can't tell that it runs inside others: each step is that of a bare machine whose storage is what the machine
+/// sees, unless it is refused further out. Nothing changes that the machine doesn't see.
+pub fn one_step_simulates()
+    ensures machine { SimulationLaw }
+    ensures inner { InnerSimulationLaw }
 {}

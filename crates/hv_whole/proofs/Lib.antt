@@ -1,0 +1,17 @@
+pub mod Apartness
+pub mod Counted
+pub mod Descend
+pub mod Each
+pub mod Foots
+pub mod Lengths
+pub mod Lifts
+pub mod Lined
+pub mod Links
+pub mod Members
+pub mod Moves
+pub mod Readings
+pub mod Roots
+pub mod Starts
+pub mod Tallies
+pub mod Untouched
+pub mod WholeRuns

@@ -1,0 +1,4 @@
+pub mod Check
+pub mod Dumps
+pub mod Report
+pub mod Summary

@@ -1,0 +1,103 @@
+//! Pieces of text.
+
+ghost use Rattle.std.specs.Prelude.{◌≡◌, ◌<◌, ◌++◌, OnOk};
+ghost use Rattle.std.specs.Fmt.{decimal};
+ghost use Rattle.hv_run.specs.Text.{hex8, hex_digit as hex_digit_of};
+ghost use Rattle.hv_report.specs.Report.{answer_text, path_text, syllables_text};
+
+use hv_map::Path;
+use hv_word::field;
+use std::alloc::{AllocError, Global};
+
+/// Appends the syllables of a path with dots between them, or `-` for that of the bare machine.
+pub fn put_path(alloc: Global, out: &mut Vec<u8>, path: &Path) -> Result<(), AllocError>
+    ensures { OnOk result (out.new.items ≡ out.old.items ++ path_text path.now) }
+{
+    match path.as_slice().split_first() {
+        Some((syllable, path)) => {
+            put_decimal(alloc, out, u64::from(*syllable))?;
+            put_syllables(alloc, out, path)
+        }
+        None => put(out, b"-"),
+    }
+}
+
+// Appends each syllable behind a dot.
+#[tactic(auto, unfolding(crate::specs::Report::syllables_text))]
+fn put_syllables(alloc: Global, out: &mut Vec<u8>, path: &[u32]) -> Result<(), AllocError>
+    ensures { OnOk result (out.new.items ≡ out.old.items ++ syllables_text path.now) }
+{
+    for syllable in path {
+        put_number(alloc, out, b".", u64::from(*syllable))?;
+    }
+    Ok(())
+}
+
+// Appends a label and an answer.
+pub(crate) fn put_answer(out: &mut Vec<u8>, label: &[u8], answer: bool) -> Result<(), AllocError>
+    ensures { OnOk result (out.new.items ≡ out.old.items ++ label.now ++ answer_text answer) }
+{
+    put(out, label)?;
+    put(out, if answer { b"yes" } else { b"no" })
+}
+
+/// Appends a label and a number in decimal digits.
+pub fn put_number(
+    alloc: Global,
+    out: &mut Vec<u8>,
+    label: &[u8],
+    number: u64,
+) -> Result<(), AllocError>
+    ensures { OnOk result (out.new.items ≡ out.old.items ++ label.now ++ decimal number) }
+{
+    put(out, label)?;
+    put_decimal(alloc, out, number)
+}
+
+// Appends a number in decimal digits.
+fn put_decimal(alloc: Global, out: &mut Vec<u8>, number: u64) -> Result<(), AllocError>
+    ensures { OnOk result (out.new.items ≡ out.old.items ++ decimal number) }
+{
+    let digits = number.to_string(alloc)?;
+    put(out, digits.as_bytes())
+}
+
+/// Appends a text.
+pub fn put(out: &mut Vec<u8>, text: &[u8]) -> Result<(), AllocError>
+    ensures { OnOk result (out.new.items ≡ out.old.items ++ text.now) }
+{
+    out.extend_from_slice(text)
+}
+
+/// Appends a word as eight digits.
+#[tactic(auto, using(crate::proofs::Digits::digits))]
+pub fn put_hex8(out: &mut Vec<u8>, word: u32) -> Result<(), AllocError>
+    ensures { OnOk result (out.new.items ≡ out.old.items ++ hex8 word) }
+{
+    put(
+        out,
+        &[
+            hex_digit(field::<28, 4>(word)),
+            hex_digit(field::<24, 4>(word)),
+            hex_digit(field::<20, 4>(word)),
+            hex_digit(field::<16, 4>(word)),
+            hex_digit(field::<12, 4>(word)),
+            hex_digit(field::<8, 4>(word)),
+            hex_digit(field::<4, 4>(word)),
+            hex_digit(field::<0, 4>(word)),
+        ],
+    )
+}
+
+// A digit, 0 to 9 and a to f.
+pub(crate) fn hex_digit(digit: u32) -> u8
+    requires { digit < 16 }
+    ensures { result ≡ hex_digit_of digit }
+{
+    let digit = digit as u8;
+    if digit < 10 {
+        b'0' + digit
+    } else {
+        b'a' - 10 + digit
+    }
+}

@@ -3,7 +3,7 @@ use Rattle.std.proofs.Common.{◌≡◌, ◌≢◌, ℕ, suc, ◌+◌, ◌-◌, 
 use Rattle.std.specs.Prelude.{replicate, slice_get}
 use Rattle.std.specs.List.{range_with_len}
 use Rattle.std.proofs.Math.Seq.{take-append_seam, drop-append-add}
-use Rattle.std.proofs.lemmas.List.{append-nil, length-replicate, length-take, take_all, take_more, drop-replicate, replicate-append-replicate}
+use Rattle.std.proofs.lemmas.List.{append-nil, length-replicate, length-take, take_more, drop-replicate, replicate-append-replicate}
 use Rattle.std.proofs.lemmas.Option.{slice_get_within, get_or_from_slice_get}
 use Rattle.std.proofs.lemmas.List.FromFn.{length-map-range_with_len, map-range_with_len_more}
 use Rattle.std.proofs.lemmas.List.Edits.{sets, sets-eq}
@@ -92,11 +92,6 @@ copied_none S F n e = ap (λ k. filled [] (1024 * k)) same
   where
     same : n ≡ length F - 0
     same = omega (arith, e)
-
-pub copied_all : (S : List ℕ) (F : List Slot) (n : ℕ) → n ≡ length F → copied S F n ≡ seen S F
-copied_all S F n e =
-    let none : 1024 * (length F - n) ≡ 0 = omega arith in
-    ap (λ k. filled (seen S (take n F)) k) none ∙ append-nil (seen S (take n F)) ∙ ap (seen S) (take_all n F (omega arith))
 
 -- a page that is read
 pub open_more : (S : List ℕ) (F : List Slot) (i g : ℕ) (s : Slot) → slice_get F i ≡ Some s → s.read ≡ Open g → sets (copied S F i) (1024 * i) (words_of S 1024 (Open g)) ≡ copied S F (i + 1)

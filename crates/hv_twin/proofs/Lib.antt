@@ -1,3 +1,4 @@
 pub mod Copies
 pub mod Moves
 pub mod Pages
+pub mod Told

@@ -11,7 +11,7 @@ use hv_store::Store;
 /// The bare machine, with its storage and its harts, and the machines inside it. What an engine keeps besides that state
 /// can't be told from its answers.
 pub trait Nested {
-    ghost use Rattle.hv_nest.specs.State.{State, harts_limit};
+    ghost use Rattle.hv_nest.specs.State.{State, IsNextInside, harts_limit};
 
     /// The storage and the harts.
     ghost state: { Self → State };
@@ -20,12 +20,13 @@ pub trait Nested {
     ghost use Rattle.hv_nest.specs.Frame.{IsFramedBy};
     ghost use Rattle.hv_nest.specs.Move.{moved_of, lined_state, running_of};
 
-    /// One step of a hart.
+    /// One step of a hart. The machine that the hart ran before, if any, was on one of the pages of the storage.
     fn step(&mut self, hart: u32) -> Outcome
         requires { hart < length (state self.old).harts }
         ensures moves { record { kind = result.kind; state = state self.new } ≡ moved_of (state self.old) hart }
         ensures changed { TellsChanges (state self.old).storage (state self.new).storage result.changed }
         ensures frame { IsFramedBy (state self.old).storage (running_of (state self.old) hart) (state self.new).storage }
+        ensures next { IsNextInside (state self.old) hart }
         ensures harts { length (state self.new).harts ≡ length (state self.old).harts }
         ensures len { length (state self.new).storage ≡ length (state self.old).storage };
 

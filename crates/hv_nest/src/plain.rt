@@ -48,6 +48,7 @@ impl Nested for Plain {
     ghost state = { λ p. p };
 
     fn step(&mut self, hart: u32) -> Outcome {
+        let _pages = self.store.pages();
         let mut cpu = self.harts.get(hart);
         let outcome = host_step(&mut self.store, &mut cpu, hart);
         self.harts.put(hart, &cpu);

@@ -1,9 +1,13 @@
 pub mod Begins
 pub mod Blocks
 pub mod Changes
+pub mod Guests
 pub mod Lists
 pub mod Moves
+pub mod Promised
 pub mod Ring
+pub mod Routes
+pub mod Runs
 pub mod Starts
 pub mod Tells
 pub mod Touch

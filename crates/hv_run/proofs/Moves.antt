@@ -1,5 +1,5 @@
 -- What a move changes in a play is what it changes in what the play tells.
-use Rattle.std.proofs.Common.{◌≡◌, ℕ, zero, suc, ◌+◌, ◌-◌, ◌<◌, ◌≤◌, nat_eq, Bool, true, false, not, ◌&&◌, ◌||◌, cond, Option, Some, None, List, [], ◌∷◌, ◌++◌, length, map, take, drop, refl, sym, ap, ◌∙◌, arith}
+use Rattle.std.proofs.Common.{◌≡◌, ◌≢◌, ℕ, zero, suc, ◌+◌, ◌-◌, ◌<◌, ◌≤◌, nat_eq, Bool, true, false, not, ◌&&◌, ◌||◌, cond, Option, Some, None, List, [], ◌∷◌, ◌++◌, length, map, take, drop, refl, sym, ap, ◌∙◌, arith}
 use Rattle.std.specs.List.{flat_map}
 use Rattle.std.specs.Prelude.{slice_get}
 use Rattle.std.proofs.lemmas.List.{length_push}
@@ -15,6 +15,8 @@ use Rattle.hv_run.specs.declared.happened.Happened.{Happened}
 use Rattle.hv_run.specs.Record.{Count, no_count, count_after, count_of, kept_limit, last_kept, WatchOf, WatchTold, told_by, told_at, told_of_count, record_of}
 use Rattle.hv_apart.specs.Marked.{SetOf}
 use Rattle.hv_run.specs.Play.{Watching, Played, rows_told, mip_of, status_at, any_marked, counts_for, rows_of, status_differs, touches, told_after, watched_after, counts_after, all_after, played_after}
+use Rattle.hv_whole.specs.Whole.{IsMasked, AreMasked}
+use Rattle.hv_run.specs.Run.{IsMoveInside, StaysInside}
 use Rattle.hv_run.specs.Stands.{IsKept, KeptOf, EachKept, StandsFor}
 use Rattle.hv_run.proofs.Lists.{first_pushed}
 
@@ -28,7 +30,17 @@ pub last_none : (st : State) → last_of st [] ≡ st
 unfolding last_of
 last_none st = refl
 
-count_more : (st : State) (ms : List Move) (m : Move) (c : Count) → count_of st (ms ++ m ∷ []) c ≡ count_after (last_of st ms) m (count_of st ms c)
+-- it can be made where it is one that can be
+masked_more : (ms : List Move) (m : Move) → AreMasked ms → IsMasked m → AreMasked (ms ++ m ∷ [])
+masked_more [] m all one = (one, tt)
+masked_more (n ∷ ms) m all one = (all.0, masked_more ms m all.1 one)
+
+inside_more : (st : State) (ms : List Move) (m : Move) → StaysInside st ms → IsMoveInside (last_of st ms) m → StaysInside st (ms ++ m ∷ [])
+unfolding last_of StaysInside
+inside_more st [] m all one = (one, tt)
+inside_more st (n ∷ ms) m all one = (all.0, inside_more (state_after st n) ms m all.1 one)
+
+pub count_more : (st : State) (ms : List Move) (m : Move) (c : Count) → count_of st (ms ++ m ∷ []) c ≡ count_after (last_of st ms) m (count_of st ms c)
 unfolding last_of count_of
 count_more st [] m c = refl
 count_more st (n ∷ ms) m c = count_more (state_after st n) ms m (count_after st n c)
@@ -43,11 +55,11 @@ tally_more h p items ft st (n ∷ ms) m t =
 abbrev pub numbers : Count → Counts
 numbers c = record { steps = c.steps; faults = length c.faults; recalls = c.recalls; kept = last_kept c.faults }
 
--- What a move did, from one state to the next: the state that it left, whether it counts, which words it changed, and what
--- it adds to the numbers.
-pub record Tells (st : State) (move : Move) (next : State) (h : Happened) : Type 0 where
+-- What a move did, from one state to the next: the state that it left, whether it counts, if there are watches at all for
+-- which it may, which words it changed, and what it adds to the numbers.
+pub record Tells (ks : List Watching) (st : State) (move : Move) (next : State) (h : Happened) : Type 0 where
   pub state : state_after st move ≡ next
-  pub counts : (w : WatchTold) → is_counted w.hart w.path st move ≡ counts_for w h
+  pub counts : ks ≢ [] → (w : WatchTold) → is_counted w.hart w.path st move ≡ counts_for w h
   pub marks : (marks : List ℕ) (ft : List ℕ) → SetOf marks ft → not (are_same ft st.storage next.storage) ≡ any_marked marks (rows_of h)
   pub numbers : (c : Count) → numbers (count_after st move c) ≡ counts_after (numbers c) h
 
@@ -118,8 +130,8 @@ told_next false touching old new w start st next items ft t before after is =
     ∙ ap (told_beside w start items t (lines old) (lines new)) is)
 
 -- one watch is told a move
-watch_told : (w : WatchOf) (start st next : State) (items : List Item) (t : Tally) (move : Move) (h : Happened) (k : Watching) → Tells st move next h → k.told ≡ told_by w start items t → IsKept start st w items k → (watched_after h next k).told ≡ told_by w start items (tally_after w.hart w.path items (foot start.storage items) st move t)
-watch_told w start st next items t move h k tells told kept =
+watch_told : (ks : List Watching) → ks ≢ [] → (w : WatchOf) (start st next : State) (items : List Item) (t : Tally) (move : Move) (h : Happened) (k : Watching) → Tells ks st move next h → k.told ≡ told_by w start items t → IsKept start st w items k → (watched_after h next k).told ≡ told_by w start items (tally_after w.hart w.path items (foot start.storage items) st move t)
+watch_told ks some w start st next items t move h k tells told kept =
     let new = status_at w.hart (last_block items) next in
     let ft = foot start.storage items in
     let W = told_by w start items t in
@@ -128,7 +140,7 @@ watch_told w start st next items t move h k tells told kept =
     let is = touched_is w items ft st next h k block marks kept.status in
     let before : lines_of w.hart items st ≡ lines k.status = lines_are w.hart items st ∙ ap lines (sym kept.status) in
     ap (λ (v : WatchTold). told_after (counts_for v h) (touches k h (status_at v.hart v.block next)) k.status (status_at v.hart v.block next) v) told
-    ∙ ap (λ (c : Bool). told_after c (touches k h new) k.status new W) (sym (tells.counts W))
+    ∙ ap (λ (c : Bool). told_after c (touches k h new) k.status new W) (sym (tells.counts some W))
     ∙ told_next (is_counted w.hart w.path st move) (touches k h new) k.status new w start st next items ft t before (lines_are w.hart items next) is
     ∙ ap (λ (x : State). told_by w start items (cond (is_counted w.hart w.path st move) (record t { count = t.count + 1 }) (beside w.hart items ft st x t))) (sym tells.state)
 
@@ -148,27 +160,31 @@ OneMore start ms move next h w o k rest more =
     × KeptOf start next w o (watched_after h next k)
     × (rest ≡ more)
 
-one_more : (start : State) (ms : List Move) (move : Move) (next : State) (h : Happened) (w : WatchOf) (o : Option (List Item)) (k : Watching) (rest more : List WatchTold) → Tells (last_of start ms) move next h → KeptOf start (last_of start ms) w o k → k.told ∷ rest ≡ told_at w start ms o ++ more → OneMore start ms move next h w o k rest more
-one_more start ms move next h w None k rest more tells kept e = absurd kept
-one_more start ms move next h w (Some items) k rest more tells kept e =
+one_more : (ks : List Watching) → ks ≢ [] → (start : State) (ms : List Move) (move : Move) (next : State) (h : Happened) (w : WatchOf) (o : Option (List Item)) (k : Watching) (rest more : List WatchTold) → Tells ks (last_of start ms) move next h → KeptOf start (last_of start ms) w o k → k.told ∷ rest ≡ told_at w start ms o ++ more → OneMore start ms move next h w o k rest more
+one_more ks some start ms move next h w None k rest more tells kept e = absurd kept
+one_more ks some start ms move next h w (Some items) k rest more tells kept e =
     let ft = foot start.storage items in
     let t = tally_of w.hart w.path items ft start ms no_tally in
     let told : k.told ≡ told_by w start items t = cc in
     let later : rest ≡ more = cc in (
-      ap (λ (x : WatchTold). x ∷ []) (watch_told w start (last_of start ms) next items t move h k tells told kept
+      ap (λ (x : WatchTold). x ∷ []) (watch_told ks some w start (last_of start ms) next items t move h k tells told kept
           ∙ ap (told_by w start items) (sym (tally_more w.hart w.path items ft start ms move no_tally))),
       watch_kept w start (last_of start ms) next items t h k told kept,
       later,
     )
 
-each_more : (start : State) (ms : List Move) (move : Move) (next : State) (h : Happened) (ws : List WatchOf) (ks : List Watching) → Tells (last_of start ms) move next h → EachKept start (last_of start ms) ws ks → rows_told ks ≡ all_told start ms ws → (rows_told (all_after h next ks) ≡ all_told start (ms ++ move ∷ []) ws) × EachKept start next ws (all_after h next ks)
-each_more start ms move next h [] [] tells kept e = (refl, tt)
-each_more start ms move next h [] (k ∷ ks) tells kept e = absurd kept
-each_more start ms move next h (w ∷ ws) [] tells kept e = absurd kept
-each_more start ms move next h (w ∷ ws) (k ∷ ks) tells kept e =
+with_one : (k : Watching) (ks : List Watching) → k ∷ ks ≢ []
+with_one k ks e = cc
+
+each_more : (all : List Watching) (start : State) (ms : List Move) (move : Move) (next : State) (h : Happened) (ws : List WatchOf) (ks : List Watching) → (ks ≢ [] → all ≢ []) → Tells all (last_of start ms) move next h → EachKept start (last_of start ms) ws ks → rows_told ks ≡ all_told start ms ws → (rows_told (all_after h next ks) ≡ all_told start (ms ++ move ∷ []) ws) × EachKept start next ws (all_after h next ks)
+each_more all start ms move next h [] [] among tells kept e = (refl, tt)
+each_more all start ms move next h [] (k ∷ ks) among tells kept e = absurd kept
+each_more all start ms move next h (w ∷ ws) [] among tells kept e = absurd kept
+each_more all start ms move next h (w ∷ ws) (k ∷ ks) among tells kept e =
+    let some : all ≢ [] = among (with_one k ks) in
     let o = pinned start.storage w.path in
-    let head : OneMore start ms move next h w o k (rows_told ks) (all_told start ms ws) = one_more start ms move next h w o k (rows_told ks) (all_told start ms ws) tells kept.0 e in
-    let tail = each_more start ms move next h ws ks tells kept.1 head.2 in (
+    let head : OneMore start ms move next h w o k (rows_told ks) (all_told start ms ws) = one_more all some start ms move next h w o k (rows_told ks) (all_told start ms ws) tells kept.0 e in
+    let tail = each_more all start ms move next h ws ks (λ more. some) tells kept.1 head.2 in (
       ap (λ (xs : List WatchTold). xs ++ rows_told (all_after h next ks)) head.0
           ∙ ap (λ (ys : List WatchTold). told_at w start (ms ++ move ∷ []) o ++ ys) tail.0,
       (head.1, tail.1),
@@ -183,20 +199,23 @@ unfolding record_of
 record_is start ms ws = refl
 
 -- A play that stands for some moves stands for them and one more, after it was told that one.
-pub stands_more : (p : Played) (start st : State) (ms : List Move) (ws : List WatchOf) (move : Move) (next : State) (h : Happened) → Tells st move next h → StandsFor p start ms ws → st ≡ last_of start ms → StandsFor (played_after h next p) start (ms ++ move ∷ []) ws × (next ≡ last_of start (ms ++ move ∷ []))
-stands_more p start st ms ws move next h tells stands is =
-    let here : Tells (last_of start ms) move next h = Rattle.std.proofs.Common.subst (λ (x : State). Tells x move next h) is tells in
+pub stands_more : (p : Played) (start st : State) (ms : List Move) (ws : List WatchOf) (move : Move) (next : State) (h : Happened) → IsMasked move → IsMoveInside st move → Tells p.watching st move next h → StandsFor p start ms ws → st ≡ last_of start ms → StandsFor (played_after h next p) start (ms ++ move ∷ []) ws × (next ≡ last_of start (ms ++ move ∷ []))
+stands_more p start st ms ws move next h mask inside tells stands is =
+    let here : Tells p.watching (last_of start ms) move next h = Rattle.std.proofs.Common.subst (λ (x : State). Tells p.watching x move next h) is tells in
     let now : next ≡ last_of start (ms ++ move ∷ []) = sym here.state ∙ sym (last_more start ms move) in
     let told = stands.told ∙ record_is start ms ws in
     let C = count_of start ms no_count in
     let counts : p.counts ≡ numbers C = ap (λ (t : Rattle.hv_run.specs.Record.Told). record { steps = t.steps; faults = t.faults; recalls = t.recalls; kept = t.kept }) told in
     let rows : rows_told p.watching ≡ all_told start ms ws = ap (λ (t : Rattle.hv_run.specs.Record.Told). t.watches) told in
-    let each = each_more start ms move next h ws p.watching here stands.kept rows in
+    let each = each_more p.watching start ms move next h ws p.watching (λ some. some) here stands.kept rows in
     let counted : counts_after p.counts h ≡ numbers (count_of start (ms ++ move ∷ []) no_count) =
     ap (λ (c : Counts). counts_after c h) counts ∙ sym (here.numbers C) ∙ ap numbers (sym (count_more start ms move no_count)) in (
       record {
         watched = stands.watched;
         few = stands.few;
+        sized = stands.sized;
+        masked = masked_more ms move stands.masked mask;
+        inside = inside_more start ms move stands.inside (Rattle.std.proofs.Common.subst (λ (x : State). IsMoveInside x move) is inside);
         told =
             ap (λ (c : Counts). told_numbers c (rows_told (all_after h next p.watching))) counted
             ∙ ap (told_numbers (numbers (count_of start (ms ++ move ∷ []) no_count))) each.0

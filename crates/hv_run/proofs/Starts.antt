@@ -10,7 +10,8 @@ use Rattle.hv_nest.specs.Watched.{tally_of}
 use Rattle.hv_run.specs.declared.numbers.Counts.{Counts}
 use Rattle.hv_run.specs.Record.{count_of, WatchOf, WatchTold, told_at, record_of}
 use Rattle.hv_run.specs.Play.{Watching, Played, rows_told, CountsWithin, TellsWithin}
-use Rattle.hv_run.specs.Stands.{watch_of, watches_of, EachWatch, CanWatch, KeptOf, EachKept, NewAt, IsNew, EachNew, StandsFor}
+use Rattle.hv_run.specs.Run.{StaysInside}
+use Rattle.hv_run.specs.Stands.{watch_of, watches_of, EachWatch, CanWatch, IsSized, KeptOf, EachKept, NewAt, IsNew, EachNew, StandsFor}
 use Rattle.hv_run.proofs.Moves.{all_told}
 
 pub each_at : (P : WatchOf → Type 0) (ws : List Watch) (i : ℕ) (d : Watch) → EachWatch P (watches_of ws) → i < length ws → P (watch_of (get_or ws i d))
@@ -54,6 +55,17 @@ all_none start (w ∷ ws) (k ∷ ks) each =
       (head.1, tail.1),
     )
 
+-- each watch that was made is one of a path and a storage as they are
+sized_at : (start : State) (w : WatchOf) (o : Option (List Item)) (k : Watching) → NewAt start w o k → IsSized start w
+sized_at start w None k new = absurd new
+sized_at start w (Some items) k new = new.2
+
+all_sized : (start : State) (ws : List WatchOf) (ks : List Watching) → EachNew start ws ks → EachWatch (IsSized start) ws
+all_sized start [] ks each = tt
+all_sized start (w ∷ ws) [] each = absurd each
+all_sized start (w ∷ ws) (k ∷ ks) each =
+    (sized_at start w (pinned start.storage w.path) k each.0, all_sized start ws ks each.1)
+
 -- no number of them is above 0
 pub new_within : (start : State) (ws : List WatchOf) (ks : List Watching) → EachNew start ws ks → TellsWithin 0 ks
 new_within start ws [] each i d lt = absurd (omega arith)
@@ -72,12 +84,19 @@ nothing_told : (start : State) (ws : List WatchOf) (rows : List WatchTold) → r
 unfolding record_of count_of
 nothing_told start ws rows e = ap (λ (rows : List WatchTold). record { steps = 0; faults = 0; recalls = 0; kept = []; watches = rows }) e
 
+none_inside : (start : State) → StaysInside start []
+unfolding StaysInside
+none_inside start = tt
+
 pub stands_new : (start : State) (p : Played) (ws : List WatchOf) → CanWatch start ws → length ws ≤ 16 → p.counts ≡ record { steps = 0; faults = 0; recalls = 0; kept = [] } → EachNew start ws p.watching → StandsFor p start [] ws
 stands_new start p ws can few counts each =
     let none = all_none start ws p.watching each in
     record {
       watched = can;
       few = few;
+      sized = all_sized start ws p.watching each;
+      masked = tt;
+      inside = none_inside start;
       told =
           ap (λ (c : Counts). record { steps = c.steps; faults = c.faults; recalls = c.recalls; kept = c.kept; watches = rows_told p.watching }) counts
           ∙ nothing_told start ws (rows_told p.watching) none.0;

@@ -1,5 +1,5 @@
 -- What a step and a change of lines tell.
-use Rattle.std.proofs.Common.{◌≡◌, ℕ, ◌+◌, nat_eq, not, ◌&&◌, Option, Some, None, List, [], ◌∷◌, ◌++◌, length, refl, sym, ap, ◌∙◌}
+use Rattle.std.proofs.Common.{◌≡◌, ◌≢◌, ℕ, ◌+◌, nat_eq, not, ◌&&◌, Option, Some, None, List, [], ◌∷◌, ◌++◌, length, refl, sym, ap, ◌∙◌}
 use Rattle.std.specs.Prelude.{slice_get}
 use Rattle.std.proofs.lemmas.List.{length_push}
 use Rattle.hv_cpu.specs.Regs.{Regs}
@@ -13,7 +13,7 @@ use Rattle.hv_nest.specs.Watched.{are_same, begins, is_outside}
 use Rattle.hv_run.specs.declared.numbers.Counts.{Counts}
 use Rattle.hv_run.specs.declared.happened.Happened.TheVariants.{Stepped, Lined}
 use Rattle.hv_run.specs.Record.{Count, FaultTold, kind_counted, last_kept, kept_limit}
-use Rattle.hv_run.specs.Play.{any_marked, kind_after}
+use Rattle.hv_run.specs.Play.{Watching, any_marked, kind_after}
 use Rattle.hv_run.proofs.Lists.{last_pushed}
 use Rattle.hv_run.proofs.Moves.{Tells, numbers}
 use Rattle.hv_run.proofs.Touch.{exact, all_same_itself}
@@ -22,10 +22,10 @@ lined_storage : (st : State) (hart mask : ℕ) (r : Option Regs) → (lined_at s
 lined_storage st hart mask None = refl
 lined_storage st hart mask (Some r) = refl
 
-pub tells_lines : (st next : State) (hart mask : ℕ) → next ≡ lined_state st hart mask → Tells st (LinesOf hart mask) next Lined
-tells_lines st next hart mask is = record {
+pub tells_lines : (ks : List Watching) (st next : State) (hart mask : ℕ) → next ≡ lined_state st hart mask → Tells ks st (LinesOf hart mask) next Lined
+tells_lines ks st next hart mask is = record {
   state = sym is;
-  counts = λ w. refl;
+  counts = λ some w. refl;
   marks = λ marks ft m.
       ap (λ (x : State). not (are_same ft st.storage x.storage)) is
       ∙ ap (λ (T : List ℕ). not (are_same ft st.storage T)) (lined_storage st hart mask (slice_get st.harts hart))
@@ -45,13 +45,13 @@ kind_numbers c hart (Fault l cause address a) =
     ap (λ (n : ℕ). faulted c n (last_kept (c.faults ++ row ∷ []))) (length_push c.faults row)
     ∙ ap (faulted c (length c.faults + 1)) (sym (last_pushed kept_limit c.faults row))
 
-pub tells_step : (st next : State) (hart : ℕ) (running : List ℕ) (kind : StepKind) (changed : Changed) → record { kind = kind; state = next } ≡ moved_of st hart → running ≡ running_of st hart → TellsChanges st.storage next.storage changed → length next.storage ≡ length st.storage → Tells st (StepOf hart) next (Stepped hart running kind changed)
-tells_step st next hart running kind changed moves path changes len =
+pub tells_step : (ks : List Watching) (st next : State) (hart : ℕ) (running : List ℕ) (kind : StepKind) (changed : Changed) → record { kind = kind; state = next } ≡ moved_of st hart → (ks ≢ [] → running ≡ running_of st hart) → TellsChanges st.storage next.storage changed → length next.storage ≡ length st.storage → Tells ks st (StepOf hart) next (Stepped hart running kind changed)
+tells_step ks st next hart running kind changed moves path changes len =
     let same_kind : (moved_of st hart).kind ≡ kind = sym (ap (λ (m : Moved). m.kind) moves) in
     record {
       state = sym (ap (λ (m : Moved). m.state) moves);
-      counts = λ w.
-          ap (λ (p : List ℕ). nat_eq hart w.hart && (begins w.path p && not (is_outside (length w.path) (moved_of st hart).kind))) (sym path)
+      counts = λ some w.
+          ap (λ (p : List ℕ). nat_eq hart w.hart && (begins w.path p && not (is_outside (length w.path) (moved_of st hart).kind))) (sym (path some))
           ∙ ap (λ (k : StepKind). nat_eq hart w.hart && (begins w.path running && not (is_outside (length w.path) k))) same_kind;
       marks = λ marks ft m. exact marks ft st.storage next.storage m (sym len) ∙ ap (any_marked marks) (sym changes.told);
       numbers = λ c. ap (λ (k : StepKind). numbers (kind_counted c hart k)) same_kind ∙ kind_numbers c hart kind;

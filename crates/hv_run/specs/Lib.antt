@@ -1,5 +1,7 @@
 pub mod Fits
 pub mod Play
+pub mod Promises
 pub mod Record
+pub mod Run
 pub mod Stands
 pub mod Text

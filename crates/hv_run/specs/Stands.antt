@@ -1,11 +1,14 @@
 -- What a play stands for.
-use Rattle.std.specs.Prelude.{◌≡◌, ℕ, ◌<◌, ◌≤◌, List, [], ◌∷◌, ◌++◌, length, map, Option, Some, None}
+use Rattle.std.specs.Prelude.{◌≡◌, ℕ, ◌*◌, ◌<◌, ◌≤◌, List, [], ◌∷◌, ◌++◌, length, map, Option, Some, None}
+use Rattle.hv_word.specs.Storage.{page_count}
 use Rattle.hv_map.specs.Item.{Item}
-use Rattle.hv_map.specs.Chain.{map_along, pinned}
+use Rattle.hv_map.specs.Chain.{depth_limit, map_along, pinned}
 use Rattle.hv_map.specs.declared.path.Watch.{Watch}
 use Rattle.hv_nest.specs.State.{State}
 use Rattle.hv_nest.specs.Move.{Move, last_of}
 use Rattle.hv_nest.specs.Watched.{no_tally, foot, last_block}
+use Rattle.hv_whole.specs.Whole.{AreMasked}
+use Rattle.hv_run.specs.Run.{StaysInside}
 use Rattle.hv_run.specs.Record.{WatchOf, told_by, record_of}
 use Rattle.hv_apart.specs.Marked.{SetOf}
 use Rattle.hv_run.specs.Play.{Watching, Played, told_of, status_at}
@@ -36,6 +39,11 @@ pub record IsWatchable (start : State) (w : WatchOf) : Type 0 where
 abbrev pub CanWatch : State → List WatchOf → Type 0
 CanWatch start watches = EachWatch (IsWatchable start) watches
 
+-- what each path and each storage has: the path is no longer than machines can be deep, and the storage has whole pages
+pub record IsSized (start : State) (w : WatchOf) : Type 0 where
+  pub path : length w.path ≤ depth_limit
+  pub storage : length start.storage ≡ 1024 * page_count start.storage
+
 -- The set that is kept of a watch is that of its foot's places at the start, and its word with the lines is the one that the
 -- state has now, in the bare page where its block stood at the start.
 pub record IsKept (start now : State) (w : WatchOf) (items : List Item) (kept : Watching) : Type 0 where
@@ -55,7 +63,8 @@ EachKept start now (w ∷ ws) (k ∷ ks) = KeptOf start now w (pinned start.stor
 -- a watch of a play that has made no move
 abbrev pub NewAt : State → WatchOf → Option (List Item) → Watching → Type 0
 NewAt start w None kept = ⊥
-NewAt start w (Some items) kept = (kept.told ≡ told_by w start items no_tally) × IsKept start start w items kept
+NewAt start w (Some items) kept =
+    (kept.told ≡ told_by w start items no_tally) × IsKept start start w items kept × IsSized start w
 
 abbrev pub IsNew : State → WatchOf → Watching → Type 0
 IsNew start w kept = NewAt start w (pinned start.storage w.path) kept
@@ -67,10 +76,14 @@ EachNew start (w ∷ ws) [] = ⊥
 EachNew start (w ∷ ws) (k ∷ ks) = IsNew start w k × EachNew start ws ks
 
 -- A play stands for a start, the moves that it made from there, and its watches: these may be watched from that start, what
--- it tells is what is told of the moves, and it keeps of each watch what belongs to the start and to the last state.
+-- it tells is what is told of the moves, and it keeps of each watch what belongs to the start and to the last state. The moves
+-- are such as can be made: changes of lines name no other bits, and no hart runs a machine beyond the storage.
 pub record StandsFor (play : Played) (start : State) (moves : List Move) (watches : List WatchOf) : Type 0 where
   pub watched : CanWatch start watches
   pub few : length watches ≤ 16
+  pub sized : EachWatch (IsSized start) watches
+  pub masked : AreMasked moves
+  pub inside : StaysInside start moves
   pub told : told_of play ≡ record_of start moves watches
   pub kept : EachKept start (last_of start moves) watches play.watching
 

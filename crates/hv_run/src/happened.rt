@@ -3,8 +3,8 @@
 use hv_map::Path;
 use hv_nest::{Changed, StepKind};
 
-/// What a move did: a step of a hart, with the path of the machine that the hart ran before it, its kind and the words that
-/// it changed; or a change of a hart's lines, which changes no word of the storage.
+/// What a move did: a step of a hart, with the path of the machine that the hart ran before it, told where there are watches,
+/// its kind and the words that it changed; or a change of a hart's lines, which changes no word of the storage.
 #[derive(Drop)]
 pub(crate) enum Happened {
     Stepped {

@@ -5,6 +5,7 @@ mod counts;
 mod fault;
 mod faults;
 mod happened;
+pub mod laws;
 mod moving;
 mod numbers;
 mod playing;

@@ -1,12 +1,13 @@
 //! A play that goes on: moves of the bare machine, one after another, and what is told of them.
 
-ghost use Rattle.std.specs.Prelude.{◌≡◌, ◌≤◌, ◌+◌, ◌<◌, ◌^◌, ◌-◌, [], ◌∷◌, IfOk, Some, bit_and, length, replicate, slice_get, vec_capacity};
+ghost use Rattle.std.specs.Prelude.{◌≡◌, ◌≢◌, ◌≤◌, ◌+◌, ◌<◌, ◌^◌, ◌-◌, [], ◌∷◌, IfOk, Some, bit_and, length, replicate, slice_get, vec_capacity};
 ghost use Rattle.hv_cpu.specs.Lines.{lines_mask};
 ghost use Rattle.hv_nest.specs.Changes.{TellsChanges};
-ghost use Rattle.hv_nest.specs.Move.{StepOf, LinesOf, moved_of, lined_state, last_of};
+ghost use Rattle.hv_nest.specs.Move.{StepOf, LinesOf, moved_of, lined_state, last_of, running_of};
 ghost use Rattle.hv_irq.specs.Events.{hart_of, mask_of, steps_of};
 ghost use Rattle.hv_run.specs.Fits.{FitsRows};
 ghost use Rattle.hv_run.specs.Play.{all_after, played_after, rows_told, told_of, TellsWithin};
+ghost use Rattle.hv_run.specs.Promises.{AreBareRunsWith, IsRoutedIn, fault_in};
 ghost use Rattle.hv_run.specs.Record.{moves_of};
 ghost use Rattle.hv_run.specs.Stands.{CanWatch, EachNew, Follows, StandsFor, watches_of};
 
@@ -18,7 +19,7 @@ use crate::rows::Rows;
 use crate::starting::start;
 use crate::watched::Watched;
 use hv_irq::Event;
-use hv_map::Watch;
+use hv_map::{Path, Watch};
 use hv_nest::{Nested, Outcome};
 use std::alloc::{AllocError, Global};
 use std::marker::Model;
@@ -71,7 +72,8 @@ impl Play {
     }
 
     /// Makes one step of a hart, and answers its outcome. Whatever start and moves the play stands for, it then stands for
-    /// them with this step.
+    /// them with this step, and no watched machine can tell up to the moment after it. A fault is told to the machine whose map
+    /// refused first.
     pub fn turn<N: Nested>(&mut self, nested: &mut N, hart: u32) -> Outcome
         requires hart { hart < length (N.state nested.old).harts }
         requires calls { self.old.calls < 2 ^ 62 }
@@ -80,8 +82,10 @@ impl Play {
         ensures calls { self.new.calls ≡ self.old.calls + 1 }
         ensures harts { length (N.state nested.new).harts ≡ length (N.state nested.old).harts }
         ensures stands { Follows self.old (N.state nested.old) self.new (N.state nested.new) (StepOf hart ∷ []) }
+        ensures guests { AreBareRunsWith self.old (N.state nested.old) (StepOf hart ∷ []) }
+        ensures routed { IsRoutedIn (N.state nested.old) hart (fault_in result.kind) }
     {
-        let running = nested.running(hart);
+        let running = self.running(nested, hart);
         let outcome = nested.step(hart);
         let happened = Happened::Stepped {
             hart,
@@ -94,7 +98,7 @@ impl Play {
     }
 
     /// Changes a hart's three interrupt lines. Whatever start and moves the play stands for, it then stands for them with
-    /// this change.
+    /// this change, and no watched machine can tell up to the moment after it.
     pub fn lines<N: Nested>(&mut self, nested: &mut N, hart: u32, mask: u32)
         requires hart { hart < length (N.state nested.old).harts }
         requires mask { bit_and mask lines_mask ≡ mask }
@@ -103,6 +107,7 @@ impl Play {
         ensures calls { self.new.calls ≡ self.old.calls + 1 }
         ensures harts { length (N.state nested.new).harts ≡ length (N.state nested.old).harts }
         ensures stands { Follows self.old (N.state nested.old) self.new (N.state nested.new) (LinesOf hart mask ∷ []) }
+        ensures guests { AreBareRunsWith self.old (N.state nested.old) (LinesOf hart mask ∷ []) }
     {
         nested.lines(hart, mask);
         self.tell(nested, &Happened::Lined);
@@ -174,6 +179,19 @@ impl Play {
     {
         for _step in 0..count {
             self.turn(nested, hart);
+        }
+    }
+
+    // The path of the machine that a hart runs, which watches are told; where there is none, it isn't looked for.
+    fn running<N: Nested>(&self, nested: &mut N, hart: u32) -> Path
+        requires { hart < length (N.state nested.old).harts }
+        ensures path { self.now.watching ≢ [] → result ≡ running_of (N.state nested.old) hart }
+        ensures same { N.state nested.new ≡ N.state nested.old }
+    {
+        if self.watched.is_empty() {
+            Path::new()
+        } else {
+            nested.running(hart)
         }
     }
 

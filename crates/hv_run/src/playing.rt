@@ -4,6 +4,7 @@ ghost use Rattle.std.specs.Prelude.{◌≡◌, ◌≤◌, ◌<◌, All, IfOk, On
 ghost use Rattle.hv_cpu.specs.Lines.{lines_mask};
 ghost use Rattle.hv_irq.specs.Events.{hart_of, mask_of, total_of};
 ghost use Rattle.hv_nest.specs.Move.{last_of};
+ghost use Rattle.hv_run.specs.Promises.{AreBareRuns, AreRouted};
 ghost use Rattle.hv_run.specs.Record.{record_of, schedule};
 ghost use Rattle.hv_run.specs.Stands.{CanWatch, watches_of};
 
@@ -14,8 +15,9 @@ use hv_map::Watch;
 use hv_nest::Nested;
 use std::alloc::{AllocError, Global};
 
-/// Plays events in order, from the engine's present state, and answers what is told of them. After want of memory nothing was
-/// played. The watches are as for `Play::new`; each event's hart is there, its mask has no bit but 0x888, and the turns take
+/// Plays events in order, from the engine's present state, and answers what is told of them. No watched machine that stands
+/// apart can tell that it isn't alone, until it is touched, and each fault that is told went to the machine whose map refused
+/// first. After want of memory nothing was played. The watches are as for `Play::new`; each event's hart is there, its mask has no bit but 0x888, and the turns take
 /// at most 1,000,000,000 steps together.
 pub fn play<N: Nested>(
     alloc: Global,
@@ -30,6 +32,8 @@ pub fn play<N: Nested>(
     requires many { length events.now ≤ 65536 }
     requires steps { total_of events.now ≤ 1000000000 }
     ensures record { IfOk result (λ r. r ≡ record_of (N.state nested.old) (schedule events.now) (watches_of watches.now)) }
+    ensures guests { OnOk result (AreBareRuns (N.state nested.old) (schedule events.now) (watches_of watches.now)) }
+    ensures routed { IfOk result (λ r. AreRouted (N.state nested.old) (schedule events.now) r.kept) }
     ensures state { OnOk result (N.state nested.new ≡ last_of (N.state nested.old) (schedule events.now)) }
     ensures err { OnErr result (N.state nested.new ≡ N.state nested.old) }
 {

@@ -2,7 +2,7 @@
 
 ghost use Rattle.std.specs.Prelude.{◌≡◌, ◌≤◌, ◌-◌, ◌<◌, [], Some, IfOk, length, map, slice_get};
 ghost use Rattle.std.specs.Option.{option_map};
-ghost use Rattle.hv_map.specs.Chain.{pinned};
+ghost use Rattle.hv_map.specs.Chain.{depth_limit, pinned};
 ghost use Rattle.hv_map.specs.Links.{syllable_of};
 ghost use Rattle.hv_nest.specs.Watched.{last_block, no_tally};
 ghost use Rattle.hv_run.specs.Stands.{IsNew, IsWatchable, NewAt, watch_of};
@@ -40,6 +40,7 @@ fn start_on<N: Nested>(
     ensures { IfOk result (λ w. NewAt (N.state nested.now) (watch_of watch.now) (Some chain.now) w) }
 {
     let store = nested.parked();
+    let _pages = store.pages();
     let block = last_block(chain);
     let foot = Footing::new(alloc, store, chain)?;
     let lines = Vec::with_capacity(alloc, KEPT)?;
@@ -72,7 +73,8 @@ fn last_block(chain: &Chain) -> Option<u32>
 
 // The same path.
 fn same_path(path: &Path) -> Path
-    ensures { result ≡ path.now }
+    ensures same { result ≡ path.now }
+    ensures short { length path.now ≤ depth_limit }
 {
     let mut same = Path::new();
     for syllable in path.as_slice() {

@@ -42,7 +42,7 @@ unfolding tables_along map_along along identity
 root_apart S = ap are_distinct (opens_range 0 (page_count S)) ∙ range_distinct 0 (page_count S)
 
 -- it sees all
-root_sees : (S : List ℕ) → length S ≡ 1024 * page_count S → seen S (map_along S []) ≡ S
+pub root_sees : (S : List ℕ) → length S ≡ 1024 * page_count S → seen S (map_along S []) ≡ S
 unfolding map_along along
 root_sees S whole = ext_get_or 0 (seen S I) S (sym same) at
   where
@@ -63,7 +63,7 @@ root_sees S whole = ext_get_or 0 (seen S I) S (sym same) at
         ∙ ap (λ (n : ℕ). get_or S n 0) place
 
 -- a run changes no length
-run_long : (st : State) (moves : List Move) → length (last_of st moves).storage ≡ length st.storage
+pub run_long : (st : State) (moves : List Move) → length (last_of st moves).storage ≡ length st.storage
 unfolding last_of
 run_long st [] = refl
 run_long st (move ∷ moves) = run_long (state_after st move) moves ∙ (move_long st move).storage

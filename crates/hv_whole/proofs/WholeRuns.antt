@@ -23,11 +23,11 @@ use Rattle.hv_whole.proofs.Starts.{start_linked}
 use Rattle.hv_whole.proofs.Tallies.{told_moves, run_keeps}
 
 -- the path of these machines
-on_path : (S path : List ℕ) (items : List Item) → pinned S path ≡ Some items → syllables items ≡ path
+pub on_path : (S path : List ℕ) (items : List Item) → pinned S path ≡ Some items → syllables items ≡ path
 unfolding pinned
 on_path S path items e = (machines_chained S (identity (page_count S)) 0 path items e).0
 
-root_path : (path : List ℕ) (items : List Item) → syllables items ≡ path → items ≡ [] → path ≡ []
+pub root_path : (path : List ℕ) (items : List Item) → syllables items ≡ path → items ≡ [] → path ≡ []
 root_path path items at is = sym at ∙ ap syllables is
 
 root_hart : (h : ℕ) (path : List ℕ) (items : List Item) → syllables items ≡ path → (path ≡ [] → h ≡ 0) → hart_along items h ≡ 0

@@ -5,3 +5,6 @@ pub mod Rising
 pub mod Pushing
 pub mod Placing
 pub mod Telling
+pub mod Written
+pub mod Named
+pub mod FormLines

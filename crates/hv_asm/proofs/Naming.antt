@@ -115,7 +115,7 @@ pub register_none : (text : List ℕ) → (IsUtf8 text → ⊥) → None ≡ reg
 register_none text bad =
     register_used text None (no_text text (codes "fp") bad refl) (lacks_all text numbered bad utf8_numbered) tt (lacks_all text used bad utf8_used)
 
-operation_again : (o : Operation) → operation_of (operation_name o) ≡ Some o
+pub operation_again : (o : Operation) → operation_of (operation_name o) ≡ Some o
 unfolding operation_of
 operation_again (Row Lui) = refl
 operation_again (Row Auipc) = refl

@@ -41,7 +41,7 @@ pieces_other : (d : ℕ) (ds : List ℕ) → is_letter d ≡ false → pieces_of
 unfolding pieces_of
 pieces_other d ds other = ap (λ b. cond b (lengthened d (pieces_of ds)) (cond (nat_eq d 35) (Comment ds ∷ []) (cond (nat_eq d 45) (signed (pieces_of ds)) (Sign d ∷ pieces_of ds)))) other
 
-after_other : (c d : ℕ) (ds : List ℕ) → is_letter d ≡ false → lengthened c (pieces_of (d ∷ ds)) ≡ Word (c ∷ []) ∷ pieces_of (d ∷ ds)
+pub after_other : (c d : ℕ) (ds : List ℕ) → is_letter d ≡ false → lengthened c (pieces_of (d ∷ ds)) ≡ Word (c ∷ []) ∷ pieces_of (d ∷ ds)
 unfolding lengthened
 after_other c d ds other =
     rw (pieces_other d ds other) (
@@ -52,7 +52,7 @@ after_other c d ds other =
           [ true ↦ after_signed c (pieces_of ds) | false ↦ refl ]
     ])
 
-pieces_letter : (c : ℕ) (cs : List ℕ) → is_letter c ≡ true → pieces_of (c ∷ cs) ≡ lengthened c (pieces_of cs)
+pub pieces_letter : (c : ℕ) (cs : List ℕ) → is_letter c ≡ true → pieces_of (c ∷ cs) ≡ lengthened c (pieces_of cs)
 unfolding pieces_of
 pieces_letter c cs letter = ap (λ b. cond b (lengthened c (pieces_of cs)) (cond (nat_eq c 35) (Comment cs ∷ []) (cond (nat_eq c 45) (signed (pieces_of cs)) (Sign c ∷ pieces_of cs)))) letter
 
@@ -130,7 +130,7 @@ unfolding begins_number
 begins_some zero t b = cc
 begins_some (suc n) t b = omega arith
 
-minus_word : (at n : ℕ) (t w : List ℕ) (ps : List Piece) → pieces_of t ≡ Word w ∷ ps → pieces_of (45 ∷ t) ≡ cond (begins_number w) (Minus w ∷ ps) (Sign 45 ∷ Word w ∷ ps)
+pub minus_word : (at n : ℕ) (t w : List ℕ) (ps : List Piece) → pieces_of t ≡ Word w ∷ ps → pieces_of (45 ∷ t) ≡ cond (begins_number w) (Minus w ∷ ps) (Sign 45 ∷ Word w ∷ ps)
 unfolding pieces_of signed is_letter is_digit
 minus_word at n t w ps cut = ap signed cut
 

@@ -9,14 +9,14 @@ use Rattle.hv_lex.specs.Numbers.{digit_in, spelled_from, fitting, number_in}
 fits_not : (n : ℕ) → 2 ^ 32 ≤ n → fitting n ≡ None
 fits_not n big = grind (arith, nat_tests)
 
-fits : (n : ℕ) → n < 2 ^ 32 → fitting n ≡ Some n
+pub fits : (n : ℕ) → n < 2 ^ 32 → fitting n ≡ Some n
 fits n small = grind (arith, nat_tests)
 
 pub number_none : (b : ℕ) (s : List ℕ) → length s ≡ 0 → None ≡ number_in b s
 unfolding number_in
 number_none b s none = sym (ap (λ t. cond t None (option_and_then fitting (spelled_from b 0 s))) (eq-eqb (length s) 0 none))
 
-number_is : (b : ℕ) (s : List ℕ) → nat_eq (length s) 0 ≡ false → number_in b s ≡ option_and_then fitting (spelled_from b 0 s)
+pub number_is : (b : ℕ) (s : List ℕ) → nat_eq (length s) 0 ≡ false → number_in b s ≡ option_and_then fitting (spelled_from b 0 s)
 unfolding number_in
 number_is b s some = ap (λ t. cond t None (option_and_then fitting (spelled_from b 0 s))) some
 

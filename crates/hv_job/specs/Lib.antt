@@ -1,1 +1,9 @@
+pub mod Asked
+pub mod Drafted
+pub mod Inside
+pub mod IsAsked
+pub mod IsJob
+pub mod JobOf
+pub mod Lines
 pub mod Names
+pub mod Texts

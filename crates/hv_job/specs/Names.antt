@@ -1,5 +1,5 @@
 -- Names of machines.
-use Rattle.std.specs.Prelude.{ℕ, Bool, false, ◌==◌, ◌&&◌, ◌||◌, nat_le, List, [], ◌∷◌, length}
+use Rattle.std.specs.Prelude.{ℕ, Bool, false, ◌==◌, ◌&&◌, ◌||◌, nat_le, List, [], ◌∷◌, length, Option, Some, None, if◌then◌else◌}
 use Rattle.std.specs.List.{list_all}
 
 -- a letter a to z
@@ -14,3 +14,7 @@ is_name_byte c = is_letter c || ((nat_le 48 c && nat_le c 57) || c == 95)
 abbrev pub is_name : List ℕ → Bool
 is_name [] = false
 is_name (c ∷ cs) = is_letter c && (nat_le (length cs) 15 && list_all is_name_byte cs)
+
+-- the name that a word is
+unfoldable pub name_of : List ℕ → Option (List ℕ)
+name_of word = if is_name word then Some word else None

@@ -1,10 +1,41 @@
 //! The text of a job: the directives that it has, or the first line that is refused.
 #![tactic(auto)]
 
-mod ends;
-mod job;
-mod name;
+ghost use Rattle.std.specs.Prelude.{◌+◌, ◌<◌, ◌^◌, length, IfOk};
+ghost use Rattle.hv_job.specs.Drafted.{GivesJob};
+ghost use Rattle.hv_job.specs.IsJob.{IsJob};
+ghost use Rattle.hv_job.specs.JobOf.{job_of};
 
+mod asked;
+mod body;
+mod directives;
+mod draft;
+mod ends;
+mod images;
+mod job;
+mod lines;
+mod name;
+mod words;
+
+use body::{read_body, read_header, read_storage};
 pub use ends::{JobEnd, JobKind};
 pub use job::{DebugCommand, DebugLine, Directive, Items, Job, Placed};
 pub use name::Name;
+use std::alloc::Global;
+
+/// The job of a text, which has at most 2^32 - 2 bytes. A refusal is that of the first line that is refused; a line of
+/// the header or the storage that is missing is refused at the number of lines plus one.
+#[tactic(auto, unfolding(crate::specs::JobOf::job_of))]
+pub fn parse_job(alloc: Global, bytes: &[u8]) -> Result<Job, JobEnd>
+    requires { length bytes.now + 1 < 2 ^ 32 }
+    ensures job { GivesJob result (job_of bytes.now) }
+    ensures limits { IfOk result IsJob }
+{
+    let header = read_header(bytes)?;
+    let (pages, storage) = read_storage(header.text, header.number)?;
+    let draft = read_body(alloc, pages, storage.text, storage.number)?;
+    Ok(draft.into_job(alloc))
+}
+
+#[cfg(test)]
+mod tests;

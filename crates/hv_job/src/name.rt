@@ -1,7 +1,9 @@
 //! Names of machines.
 
-ghost use Rattle.std.specs.Prelude.{◌≡◌, ◌≤◌, length};
+ghost use Rattle.std.specs.Prelude.{◌≡◌, ◌≤◌, length, true};
 ghost use Rattle.std.specs.Str.{bytes_eq};
+ghost use Rattle.std.specs.List.{list_all};
+ghost use Rattle.hv_job.specs.Names.{is_letter as is_letter_of, is_name as is_name_of, is_name_byte as is_name_byte_of, name_of};
 
 use std::marker::Model;
 
@@ -27,6 +29,22 @@ impl Model for Name {
 }
 
 impl Name {
+    /// The name that a word is.
+    #[tactic(auto, unfolding(crate::specs::Names::name_of))]
+    pub fn read(word: &[u8]) -> Option<Name>
+        ensures { result ≡ name_of word.now }
+    {
+        if !is_name(word) {
+            return None;
+        }
+        let mut letters = [0; LETTERS];
+        letters[..word.len()].copy_from_slice(word);
+        Some(Name {
+            len: word.len() as u32,
+            letters,
+        })
+    }
+
     /// The same name.
     pub fn copied(&self) -> Name
         ensures { result ≡ self.now }
@@ -51,4 +69,35 @@ impl Name {
     {
         &self.letters[..self.len as usize]
     }
+}
+
+// Whether a word is a name.
+fn is_name(word: &[u8]) -> bool
+    ensures value { result ≡ is_name_of word.now }
+    ensures short { result ≡ true → length word.now ≤ 16 }
+{
+    match word {
+        [first, behind @ ..] => {
+            is_letter(*first) && behind.len() <= 15 && are_name_bytes(behind)
+        }
+        [] => false,
+    }
+}
+
+fn are_name_bytes(bytes: &[u8]) -> bool
+    ensures { result ≡ list_all is_name_byte_of bytes.now }
+{
+    bytes.iter().all(|byte| is_name_byte(*byte))
+}
+
+fn is_name_byte(byte: u8) -> bool
+    ensures { result ≡ is_name_byte_of byte }
+{
+    is_letter(byte) || (byte >= b'0' && byte <= b'9') || byte == b'_'
+}
+
+fn is_letter(byte: u8) -> bool
+    ensures { result ≡ is_letter_of byte }
+{
+    byte >= b'a' && byte <= b'z'
 }

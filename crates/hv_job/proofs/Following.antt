@@ -1,0 +1,111 @@
+-- The job of a text, one line more at a time.
+use Rattle.std.proofs.Common.{◌≡◌, ℕ, ◌+◌, ◌≤◌, Bool, true, false, not, cond, nat_lt, List, [], ◌∷◌, length, Result, Ok, Err, refl, sym, ap, ◌∙◌, subst, arith}
+use Rattle.std.proofs.lemmas.Bool.{ltb-false}
+use Rattle.hv_lex.specs.Lines.{lines_of}
+use Rattle.std.specs.Prelude.{IsErrAnd}
+use Rattle.hv_job.specs.Asked.{asked_of}
+use Rattle.hv_job.specs.Drafted.{LeadsTo, Refuses}
+use Rattle.hv_job.specs.JobOf.{Answer, added, and_then, asked_with, at_line, begins_image, body_from, draft_of, has_words, header_from, is_image, job_in, line_with, storage_from, storage_pages, storage_with}
+use Rattle.hv_job.specs.Lines.{is_allowed, is_header, words_of}
+use Rattle.hv_job.specs.declared.asked.Asked.{Asked}
+use Rattle.hv_job.specs.declared.asked.Asked.TheVariants as asks
+use Rattle.hv_job.specs.declared.draft.Draft.{Draft}
+use Rattle.hv_job.specs.declared.draft.LineEnd.{LineEnd}
+use Rattle.hv_job.specs.declared.draft.LineEnd.TheVariants as lined
+use Rattle.hv_job.specs.declared.ends.JobEnd.{JobEnd}
+use Rattle.hv_job.specs.declared.ends.JobEnd.TheVariants.{JobFault, Memory}
+use Rattle.hv_job.specs.declared.ends.JobKind.{JobKind}
+use Rattle.hv_job.specs.declared.ends.JobKind.TheVariants as fault
+use Rattle.hv_job.proofs.Ending.{no_lines}
+
+-- the header
+pub header_end : (n : ℕ) (s : List ℕ) (all : Answer) → length s ≡ 0 → header_from n (lines_of s) ≡ all → all ≡ Err (n, fault.Header)
+unfolding header_from
+header_end n s all none told = sym told ∙ ap (header_from n) (no_lines s none)
+
+module _ (n : ℕ) (s line behind : List ℕ) (all : Answer) (cut : lines_of s ≡ line ∷ lines_of behind) where
+  abbrev choice : (allowed words header : Bool) → Answer
+  choice allowed words header =
+      cond (not allowed) (Err (n, fault.Byte)) (cond (not words) (header_from (n + 1) (lines_of behind)) (cond header (storage_from (n + 1) (lines_of behind)) (Err (n, fault.Header))))
+
+  header_is : (allowed words header : Bool) → is_allowed line ≡ allowed → has_words line ≡ words → is_header (words_of line) ≡ header → header_from n (lines_of s) ≡ choice allowed words header
+  unfolding header_from
+  header_is allowed words header a w h =
+      ap (header_from n) cut ∙ ap (λ b. choice b (has_words line) (is_header (words_of line))) a ∙ ap (λ b. choice allowed b (is_header (words_of line))) w ∙ ap (choice allowed words) h
+
+  pub header_byte : header_from n (lines_of s) ≡ all → is_allowed line ≡ false → all ≡ Err (n, fault.Byte)
+  header_byte told a = sym told ∙ header_is false _ _ a refl refl
+
+  pub header_skip : header_from n (lines_of s) ≡ all → is_allowed line ≡ true → has_words line ≡ false → header_from (n + 1) (lines_of behind) ≡ all
+  header_skip told a w = sym (header_is true false _ a w refl) ∙ told
+
+  pub header_other : header_from n (lines_of s) ≡ all → is_allowed line ≡ true → has_words line ≡ true → is_header (words_of line) ≡ false → all ≡ Err (n, fault.Header)
+  header_other told a w h = sym told ∙ header_is true true false a w h
+
+  pub header_found : header_from n (lines_of s) ≡ all → is_allowed line ≡ true → has_words line ≡ true → is_header (words_of line) ≡ true → all ≡ storage_from (n + 1) (lines_of behind)
+  header_found told a w h = sym told ∙ header_is true true true a w h
+
+-- the storage
+pub storage_end : (n : ℕ) (s : List ℕ) (all : Answer) → length s ≡ 0 → storage_from n (lines_of s) ≡ all → all ≡ Err (n, fault.Storage)
+unfolding storage_from
+storage_end n s all none told = sym told ∙ ap (storage_from n) (no_lines s none)
+
+module _ (n : ℕ) (s line behind : List ℕ) (all : Answer) (cut : lines_of s ≡ line ∷ lines_of behind) where
+  abbrev place : (allowed words : Bool) → Answer
+  place allowed words =
+      cond (not allowed) (Err (n, fault.Byte)) (cond (not words) (storage_from (n + 1) (lines_of behind)) (storage_with n (lines_of behind) (storage_pages (words_of line))))
+
+  storage_is : (allowed words : Bool) → is_allowed line ≡ allowed → has_words line ≡ words → storage_from n (lines_of s) ≡ place allowed words
+  unfolding storage_from
+  storage_is allowed words a w = ap (storage_from n) cut ∙ ap (λ b. place b (has_words line)) a ∙ ap (place allowed) w
+
+  pub storage_byte : storage_from n (lines_of s) ≡ all → is_allowed line ≡ false → all ≡ Err (n, fault.Byte)
+  storage_byte told a = sym told ∙ storage_is false _ a refl
+
+  pub storage_skip : storage_from n (lines_of s) ≡ all → is_allowed line ≡ true → has_words line ≡ false → storage_from (n + 1) (lines_of behind) ≡ all
+  storage_skip told a w = sym (storage_is true false a w) ∙ told
+
+  pub storage_refused : (kind : JobKind) → storage_from n (lines_of s) ≡ all → is_allowed line ≡ true → has_words line ≡ true → storage_pages (words_of line) ≡ Err kind → all ≡ Err (n, kind)
+  storage_refused kind told a w p = sym told ∙ storage_is true true a w ∙ ap (storage_with n (lines_of behind)) p
+
+  pub storage_found : (pages : ℕ) → storage_from n (lines_of s) ≡ all → is_allowed line ≡ true → has_words line ≡ true → storage_pages (words_of line) ≡ Ok pages → all ≡ body_from (draft_of pages) false (n + 1) (lines_of behind)
+  storage_found pages told a w p = sym told ∙ storage_is true true a w ∙ ap (storage_with n (lines_of behind)) p
+
+-- the lines behind it
+pub body_end : (draft : Draft) (n : ℕ) (s : List ℕ) (all : Answer) → length s ≡ 0 → body_from draft false n (lines_of s) ≡ all → all ≡ Ok (job_in draft)
+unfolding body_from
+body_end draft n s all none told = sym told ∙ ap (body_from draft false n) (no_lines s none)
+
+module _ (draft : Draft) (n : ℕ) (s line behind : List ℕ) (all : Answer) (cut : lines_of s ≡ line ∷ lines_of behind) (told : body_from draft false n (lines_of s) ≡ all) where
+  abbrev next : Draft → Answer
+  next new = body_from new (begins_image line) (n + 1) (lines_of behind)
+
+  body_is : body_from draft false n (lines_of s) ≡ and_then (line_with draft n line (lines_of behind)) next
+  unfolding body_from
+  body_is = ap (body_from draft false n) cut
+
+  pub body_more : (new : Draft) (m : ℕ) (rest : List ℕ) → line_with draft n line (lines_of behind) ≡ Ok new → body_from new (begins_image line) (n + 1) (lines_of behind) ≡ body_from new false m (lines_of rest) → body_from new false m (lines_of rest) ≡ all
+  body_more new m rest made goes = sym goes ∙ sym (ap (λ r. and_then r next) made) ∙ sym body_is ∙ told
+
+  pub body_refused : (end : JobEnd) → Refuses end (line_with draft n line (lines_of behind)) → Refuses end all
+  body_refused (JobFault k kind) made = sym told ∙ body_is ∙ ap (λ r. and_then r next) made
+  body_refused Memory made = tt
+
+-- a line without words begins no image
+no_words : (words : List (List ℕ)) → nat_lt 0 (length words) ≡ false → is_image (asked_of words) ≡ false
+unfolding asked_of
+no_words [] e = refl
+no_words (w ∷ ws) e = let h : length (w ∷ ws) ≤ 0 = ltb-false 0 (length (w ∷ ws)) e in absurd (omega arith)
+
+pub skipped : (line : List ℕ) → has_words line ≡ false → begins_image line ≡ false
+unfolding begins_image
+skipped line e = no_words (words_of line) e
+
+pub begins : (line : List ℕ) (asked : Asked) → Ok asked ≡ asked_of (words_of line) → is_image (Ok asked) ≡ begins_image line
+unfolding begins_image
+begins line asked is = ap is_image is
+
+-- a refusal that goes on as it is
+pub passes_on : {A : Type 0} (r : Result A JobEnd) (end : JobEnd) (text : Answer) (next : A → Answer) → IsErrAnd r (λ given. given ≡ end) → Refuses end text → LeadsTo r text next
+passes_on (Ok place) end text next is refuses = elim is [ ]
+passes_on (Err given) end text next is refuses = subst (λ given. Refuses given text) (sym is) refuses

@@ -1,0 +1,11 @@
+pub mod Counting
+pub mod Ending
+pub mod Following
+pub mod Limiting
+pub mod Spanning
+pub mod Sampling
+pub mod Cutting
+pub mod Numbering
+pub mod Ranging
+pub mod Reading
+pub mod Shapes

@@ -1,0 +1,21 @@
+use Rattle.std.proofs.Common.{arith, rules}
+use Rattle.hv_job.proofs.Following.{body_end, body_more, body_refused, passes_on}
+use Rattle.hv_job.proofs.body.read_body.Goals as goal
+
+pub returns-in_err-spot : goal.returns-in_err-spot
+returns-in_err-spot c =
+    passes_on c.from_residual.result c.in_err-spot.field-0.0 _ _ c.from_residual.ensures.1
+    (body_refused c.loop-rest.draft c.loop-rest.number c.loop-rest.rest.now c.first_line.result.0.now c.first_line.result.1.now _
+    c.first_line.ensures.cut c.loop-rest.invariant.told c.in_err-spot.field-0.0 c.in_err-spot.ensures.draft)
+
+pub loop-rest-preserved : goal.loop-rest-preserved
+loop-rest-preserved c = record {
+  size = omega (arith, c.loop-rest.invariant.size, c.in_ok-spot.ensures.size, c.first_line.ensures.behind);
+  told =
+      body_more c.loop-rest.draft c.loop-rest.number c.loop-rest.rest.now c.first_line.result.0.now c.first_line.result.1.now _
+      c.first_line.ensures.cut c.loop-rest.invariant.told c.read_line.new.draft c.in_ok-spot.spot.number c.in_ok-spot.spot.text.now
+      c.in_ok-spot.ensures.draft c.in_ok-spot.ensures.rest;
+}
+
+pub returns : goal.returns
+returns c = body_end c.loop-rest.draft c.loop-rest.number c.loop-rest.rest.now _ (search rules) c.loop-rest.invariant.told

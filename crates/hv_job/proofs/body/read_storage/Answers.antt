@@ -1,0 +1,32 @@
+use Rattle.std.proofs.Common.{arith, rules}
+use Rattle.hv_job.proofs.Following.{storage_end, storage_byte, storage_skip, storage_refused, storage_found}
+use Rattle.hv_job.proofs.body.read_storage.Goals as goal
+
+pub returns-then-not-has_allowed_bytes-clause-spot : goal.returns-then-not-has_allowed_bytes-clause-spot
+returns-then-not-has_allowed_bytes-clause-spot c =
+    rw c.refused.ensures
+    (storage_byte c.loop-rest.number c.loop-rest.rest.now c.first_line.result.0.now c.first_line.result.1.now _ c.first_line.ensures.cut
+    c.loop-rest.invariant.told (search rules))
+
+pub returns-in-Ok-clause-spot : goal.returns-in-Ok-clause-spot
+returns-in-Ok-clause-spot c =
+    storage_found c.loop-rest.number c.loop-rest.rest.now c.first_line.result.0.now c.first_line.result.1.now _ c.first_line.ensures.cut
+    c.in-Ok.pages c.loop-rest.invariant.told (search rules) (search rules) (search rules)
+
+pub returns-in-Err-clause-spot : goal.returns-in-Err-clause-spot
+returns-in-Err-clause-spot c =
+    rw c.refused-in-Err.ensures
+    (storage_refused c.loop-rest.number c.loop-rest.rest.now c.first_line.result.0.now c.first_line.result.1.now _ c.first_line.ensures.cut
+    c.in-Err.kind c.loop-rest.invariant.told (search rules) (search rules) (search rules))
+
+pub loop-rest-preserved : goal.loop-rest-preserved
+loop-rest-preserved c = record {
+  size = omega (arith, c.loop-rest.invariant.size, c.first_line.ensures.behind);
+  told =
+      storage_skip c.loop-rest.number c.loop-rest.rest.now c.first_line.result.0.now c.first_line.result.1.now _ c.first_line.ensures.cut
+      c.loop-rest.invariant.told (search rules) (search rules);
+}
+
+pub returns-clause-spot : goal.returns-clause-spot
+returns-clause-spot c =
+    rw c.refused-2.ensures (storage_end c.loop-rest.number c.loop-rest.rest.now _ (search rules) c.loop-rest.invariant.told)

@@ -1,0 +1,14 @@
+use Rattle.std.proofs.Common.{◌≡◌, ◌+◌, ◌≤◌, length}
+use Rattle.hv_lex.specs.Lines.{lines_of}
+use Rattle.hv_job.specs.JobOf.{storage_from}
+use Rattle.hv_job.proofs.body.read_storage.Given as goal
+
+-- the job of what is left is that of the text
+abbrev pub invariant-loop-rest : goal.invariant-loop-rest
+invariant-loop-rest l = record {
+  size : l.number + length l.rest ≤ l.first + length l.text;
+  told : storage_from l.number (lines_of l.rest) ≡ storage_from l.first (lines_of l.text);
+}
+
+abbrev pub decreases-loop-rest : goal.decreases-loop-rest
+decreases-loop-rest l = length l.rest

@@ -1,0 +1,57 @@
+-- What the reading of a text answers, beside its job.
+use Rattle.std.specs.Prelude.{◌≡◌, ℕ, ◌+◌, ◌^◌, ◌<◌, Result, Ok, Err}
+use Rattle.hv_asm.specs.declared.AsmEnd.{AsmEnd}
+use Rattle.hv_asm.specs.declared.AsmEnd.TheVariants as asm
+use Rattle.hv_job.specs.JobOf.{Answer, asm_kind}
+use Rattle.hv_job.specs.declared.draft.Draft.{Draft}
+use Rattle.hv_job.specs.declared.draft.LineEnd.{LineEnd}
+use Rattle.hv_job.specs.declared.draft.LineEnd.TheVariants as line
+use Rattle.hv_job.specs.declared.ends.JobEnd.{JobEnd}
+use Rattle.hv_job.specs.declared.ends.JobEnd.TheVariants.{JobFault, Memory}
+use Rattle.hv_job.specs.declared.ends.JobKind.{JobKind}
+use Rattle.hv_job.specs.declared.job.Job.{Job}
+
+-- a refusal is the one that the text has; memory may be wanting whatever it has
+abbrev pub Refuses : {A : Type 0} → JobEnd → Result A (ℕ × JobKind) → Type 0
+Refuses (JobFault line kind) text = text ≡ Err (line, kind)
+Refuses Memory text = Unit {0}
+
+-- the job is the one that the text has
+abbrev pub GivesJob : Result Job JobEnd → Answer → Type 0
+GivesJob (Ok job) text = text ≡ Ok job
+GivesJob (Err end) text = Refuses end text
+
+-- the same of what a line has
+abbrev pub LineRefuses : {A : Type 0} → LineEnd → Result A JobKind → Type 0
+LineRefuses (line.Fault kind) made = made ≡ Err kind
+LineRefuses line.Memory made = Unit {0}
+
+-- what is made is the new value
+abbrev pub Makes : {A : Type 0} → Result (Unit {0}) LineEnd → Result A JobKind → A → Type 0
+Makes (Ok done) made new = made ≡ Ok new
+Makes (Err end) made new = LineRefuses end made
+
+-- the draft is the one that is made
+abbrev pub GivesDraft : {A : Type 0} → Result A JobEnd → Result Draft (ℕ × JobKind) → Draft → Type 0
+GivesDraft (Ok spot) made new = made ≡ Ok new
+GivesDraft (Err end) made new = Refuses end made
+
+-- why a text has no job, from why a line asks for nothing
+abbrev pub ended : LineEnd → ℕ → JobEnd
+ended (line.Fault kind) number = JobFault number kind
+ended line.Memory number = Memory
+
+-- why a text has no job, from why the text of an image that begins on a line has no words
+abbrev pub ended_inside : AsmEnd → ℕ → JobEnd
+ended_inside (asm.AsmFault line kind) number = JobFault (number + line) (asm_kind kind)
+ended_inside asm.Memory number = Memory
+
+-- its number is one of a line
+abbrev pub FitsBehind : AsmEnd → ℕ → Type 0
+FitsBehind (asm.AsmFault line kind) number = number + line < 2 ^ 32
+FitsBehind asm.Memory number = Unit {0}
+
+-- a place of a text, from which on it has the same job
+abbrev pub LeadsTo : {A : Type 0} → Result A JobEnd → Answer → (A → Answer) → Type 0
+LeadsTo (Ok place) text next = text ≡ next place
+LeadsTo (Err end) text next = Refuses end text

@@ -1,0 +1,225 @@
+-- The job of a text: the first refusal over all of its lines, or what they ask for.
+use Rattle.std.specs.Prelude.{ℕ, ◌+◌, ◌*◌, nat_lt, nat_le, not, Bool, true, false, if◌then◌else◌, List, [], ◌∷◌, ◌++◌, length, codes, find, take_while, unwrap_or, Option, Some, None, Result, Ok, Err}
+use Rattle.hv_asm.specs.Assembly.{asm_of, place_of, words_from}
+use Rattle.hv_asm.specs.declared.AsmKind.{AsmKind}
+use Rattle.hv_asm.specs.declared.AsmKind.TheVariants as asm
+use Rattle.hv_irq.specs.Events.{refusal_of}
+use Rattle.hv_irq.specs.declared.Event.{Event}
+use Rattle.hv_irq.specs.declared.Event.TheVariants as event
+use Rattle.hv_irq.specs.declared.PushEnd.{PushEnd}
+use Rattle.hv_irq.specs.declared.PushEnd.TheVariants as pushed
+use Rattle.hv_lex.specs.Lines.{lines_of}
+use Rattle.hv_samples.specs.Samples.{sample_text}
+use Rattle.hv_samples.specs.declared.choice.Sample.{Sample}
+use Rattle.hv_job.specs.Asked.{asked_of}
+use Rattle.hv_job.specs.IsJob.{bytes_of, count_of, image_bytes, is_dump, is_machine, is_watch}
+use Rattle.hv_job.specs.Lines.{begins_with, is_allowed, is_header, is_only, words_of}
+use Rattle.hv_job.specs.declared.asked.Asked.{Asked}
+use Rattle.hv_job.specs.declared.asked.Asked.TheVariants as asks
+use Rattle.hv_job.specs.declared.draft.Draft.{Draft}
+use Rattle.hv_job.specs.declared.ends.JobKind.{JobKind}
+use Rattle.hv_job.specs.declared.ends.JobKind.TheVariants as fault
+use Rattle.hv_job.specs.declared.job.Directive.{Directive}
+use Rattle.hv_job.specs.declared.job.Directive.TheVariants as directive
+use Rattle.hv_job.specs.declared.job.Job.{Job}
+use Rattle.hv_job.specs.declared.job.Placed.{Placed}
+
+-- a job, or the number of a line and why it is refused
+abbrev pub Answer : Type 0
+Answer = Result Job (ℕ × JobKind)
+
+-- a line that isn't skipped
+abbrev pub has_words : List ℕ → Bool
+has_words line = nat_lt 0 (length (words_of line))
+
+-- a line that ends an image
+unfoldable pub is_end : List ℕ → Bool
+is_end line = is_only (codes "end") (words_of line)
+
+-- a limit that a directive behind these lines passes
+unfoldable pub is_many : List Placed → Directive → Bool
+is_many lines (directive.Machine name parent block pages table at) = nat_le 256 (count_of is_machine lines)
+is_many lines (directive.Watch hart name) = nat_le 16 (count_of is_watch lines)
+is_many lines (directive.Dump name page) = nat_le 1024 (count_of is_dump lines)
+is_many lines (directive.Image name image) = nat_lt 67108864 (image_bytes lines + 4 * length image.words)
+is_many lines (directive.Sample name image) = nat_lt 67108864 (image_bytes lines + 4 * length image.words)
+is_many lines _ = false
+
+-- the lines with a directive on the line of this number behind them
+abbrev pub lines_with : List Placed → ℕ → Directive → List Placed
+lines_with lines number what = lines ++ record { line = number; what = what } ∷ []
+
+-- the draft with a directive
+unfoldable pub placed : Draft → ℕ → Directive → Result Draft JobKind
+placed draft number what =
+    if is_many draft.lines what then Err fault.Many
+    else Ok (record draft { lines = lines_with draft.lines number what })
+
+-- the draft with the number of harts, which one line may give
+abbrev pub harts_with : Draft → ℕ → Option ℕ → Result Draft JobKind
+harts_with draft harts None = Ok (record draft { harts = Some harts })
+harts_with draft harts (Some before) = Err fault.Repeat
+
+-- an event that the schedule can't have is out of range, or one too many
+abbrev pub push_kind : PushEnd → JobKind
+push_kind pushed.Many = fault.Many
+push_kind _ = fault.Range
+
+abbrev pub event_with : Draft → ℕ → Directive → Event → Option PushEnd → Result Draft JobKind
+event_with draft number what event (Some refusal) = Err (push_kind refusal)
+event_with draft number what event None =
+    Ok (record draft { lines = lines_with draft.lines number what; recording = draft.recording ++ event ∷ [] })
+
+-- the draft with a directive that is an event of the schedule
+unfoldable pub happened : Draft → ℕ → Directive → Event → Result Draft JobKind
+happened draft number what event = event_with draft number what event (refusal_of draft.recording event)
+
+abbrev pub sample_with : Draft → ℕ → List ℕ → ℕ → Result (List ℕ) (ℕ × AsmKind) → Result Draft JobKind
+sample_with draft number name at (Err refusal) = Err fault.Range
+sample_with draft number name at (Ok words) =
+    placed draft number (directive.Sample name (record { base = at; words = words }))
+
+-- the draft with what a line asks for; images have more lines
+unfoldable pub added : Draft → ℕ → Asked → Result Draft JobKind
+added draft number (asks.Storage pages) = Err fault.Directive
+added draft number (asks.Harts harts) = harts_with draft harts draft.harts
+added draft number (asks.Hart hart pc) = placed draft number (directive.Hart hart pc)
+added draft number (asks.Machine name parent block pages table at) =
+    placed draft number (directive.Machine name parent block pages table at)
+added draft number (asks.Map name page entry) = placed draft number (directive.Map name page entry)
+added draft number (asks.Start name pc) = placed draft number (directive.Start name pc)
+added draft number (asks.Image name at) = Err fault.Open
+added draft number (asks.Sample name at which) = sample_with draft number name at (asm_of (sample_text which) at)
+added draft number (asks.Word name at values) = placed draft number (directive.Word name at values)
+added draft number (asks.Tower depth pages which) = placed draft number (directive.Tower depth pages which)
+added draft number (asks.Turn hart count) = happened draft number (directive.Turn hart) (event.Turn hart count)
+added draft number (asks.Lines hart mask) = happened draft number (directive.Lines hart) (event.Lines hart mask)
+added draft number (asks.Watch hart name) = placed draft number (directive.Watch hart name)
+added draft number (asks.Dump name page) = placed draft number (directive.Dump name page)
+
+-- the kind of a refusal of the assembler
+abbrev pub asm_kind : AsmKind → JobKind
+asm_kind asm.Byte = fault.Byte
+asm_kind asm.Syntax = fault.Syntax
+asm_kind asm.Repeat = fault.Repeat
+asm_kind asm.Mnemonic = fault.Mnemonic
+asm_kind asm.Operand = fault.Operand
+asm_kind asm.Label = fault.Label
+asm_kind asm.Range = fault.Range
+
+-- a refusal at the line of this number
+abbrev pub at_line : {A : Type 0} → ℕ → Result A JobKind → Result A (ℕ × JobKind)
+at_line number (Ok value) = Ok value
+at_line number (Err kind) = Err (number, kind)
+
+-- the draft with an image that was assembled, whose end is this line
+abbrev pub image_with : Draft → (number last : ℕ) → List ℕ → List ℕ → ℕ → Result (List ℕ) (ℕ × AsmKind) → Result Draft (ℕ × JobKind)
+image_with draft number last line name base (Err (inner, kind)) = Err (number + inner, asm_kind kind)
+image_with draft number last line name base (Ok words) =
+    at_line last (
+    if is_allowed line then placed draft number (directive.Image name (record { base = base; words = words }))
+    else Err fault.Byte)
+
+-- the words of the lines of an image
+abbrev pub image_words : ℕ → List (List ℕ) → Result (List ℕ) (ℕ × AsmKind)
+image_words base lines = words_from (place_of base lines) base 1 base lines
+
+-- the lines of an image before its end
+abbrev pub before_end : List (List ℕ) → List (List ℕ)
+before_end lines = take_while (λ line. not (is_end line)) lines
+
+abbrev pub image_of : Draft → ℕ → List ℕ → ℕ → List (List ℕ) → Option (List ℕ) → Result Draft (ℕ × JobKind)
+image_of draft number name base inside None = Err (number, fault.Open)
+image_of draft number name base inside (Some line) =
+    image_with draft number (number + 1 + length inside) line name base (image_words base inside)
+
+-- the draft with the image that a line begins; behind are the lines behind it
+unfoldable pub image_added : Draft → ℕ → List ℕ → ℕ → List (List ℕ) → Result Draft (ℕ × JobKind)
+image_added draft number name base behind =
+    image_of draft number name base (before_end behind) (find is_end behind)
+
+-- the draft with what a line asks for, and whether the lines of an image come next
+abbrev pub asked_with : Draft → ℕ → List (List ℕ) → Asked → Result Draft (ℕ × JobKind)
+asked_with draft number behind (asks.Image name at) = image_added draft number name at behind
+asked_with draft number behind asked = at_line number (added draft number asked)
+
+-- the draft with what the words of a line ask for
+abbrev pub words_with : Draft → ℕ → List (List ℕ) → Result Asked JobKind → Result Draft (ℕ × JobKind)
+words_with draft number behind (Ok asked) = asked_with draft number behind asked
+words_with draft number behind (Err kind) = Err (number, kind)
+
+-- the draft with a line behind the one of the storage; behind are the lines behind it
+unfoldable pub line_with : Draft → ℕ → List ℕ → List (List ℕ) → Result Draft (ℕ × JobKind)
+line_with draft number line behind =
+    if not (is_allowed line) then Err (number, fault.Byte)
+    else if not (has_words line) then Ok draft
+    else if begins_with (codes "storage") (words_of line) then Err (number, fault.Directive)
+    else words_with draft number behind (asked_of (words_of line))
+
+abbrev pub is_image : Result Asked JobKind → Bool
+is_image (Ok (asks.Image name at)) = true
+is_image _ = false
+
+-- the lines of an image come next
+unfoldable pub begins_image : List ℕ → Bool
+begins_image line = is_image (asked_of (words_of line))
+
+abbrev pub job_in : Draft → Job
+job_in draft = record {
+  pages = draft.pages;
+  harts = unwrap_or draft.harts 1;
+  lines = draft.lines;
+  recording = draft.recording;
+  commands = [];
+}
+
+abbrev pub and_then : Result Draft (ℕ × JobKind) → (Draft → Answer) → Answer
+and_then (Ok draft) next = next draft
+and_then (Err refusal) next = Err refusal
+
+-- the job of a draft and the lines behind, the first of which has this number; the lines inside an image were read with
+-- the line that began it
+unfoldable pub body_from : Draft → Bool → ℕ → List (List ℕ) → Answer
+body_from draft inside number [] = Ok (job_in draft)
+body_from draft true number (line ∷ lines) = body_from draft (not (is_end line)) (number + 1) lines
+body_from draft false number (line ∷ lines) =
+    and_then (line_with draft number line lines) (λ next. body_from next (begins_image line) (number + 1) lines)
+
+-- nothing but a storage
+abbrev pub draft_of : ℕ → Draft
+draft_of pages = record { pages = pages; harts = None; lines = []; recording = [] }
+
+-- the pages of a storage
+abbrev pub pages_of : Result Asked JobKind → Result ℕ JobKind
+pages_of (Ok (asks.Storage pages)) = Ok pages
+pages_of (Ok _) = Err fault.Storage
+pages_of (Err kind) = Err kind
+
+-- the pages of the storage that the words of the second line ask for
+unfoldable pub storage_pages : List (List ℕ) → Result ℕ JobKind
+storage_pages words = if begins_with (codes "storage") words then pages_of (asked_of words) else Err fault.Storage
+
+abbrev pub storage_with : ℕ → List (List ℕ) → Result ℕ JobKind → Answer
+storage_with number lines (Ok pages) = body_from (draft_of pages) false (number + 1) lines
+storage_with number lines (Err kind) = Err (number, kind)
+
+-- the job of the lines behind the header
+unfoldable pub storage_from : ℕ → List (List ℕ) → Answer
+storage_from number [] = Err (number, fault.Storage)
+storage_from number (line ∷ lines) =
+    if not (is_allowed line) then Err (number, fault.Byte)
+    else if not (has_words line) then storage_from (number + 1) lines
+    else storage_with number lines (storage_pages (words_of line))
+
+-- the job of the lines from its beginning
+unfoldable pub header_from : ℕ → List (List ℕ) → Answer
+header_from number [] = Err (number, fault.Header)
+header_from number (line ∷ lines) =
+    if not (is_allowed line) then Err (number, fault.Byte)
+    else if not (has_words line) then header_from (number + 1) lines
+    else if is_header (words_of line) then storage_from (number + 1) lines
+    else Err (number, fault.Header)
+
+-- the job of a text
+unfoldable pub job_of : List ℕ → Answer
+job_of text = header_from 1 (lines_of text)

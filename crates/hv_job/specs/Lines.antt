@@ -1,0 +1,47 @@
+-- A line of a job as its words.
+use Rattle.std.specs.Prelude.{ℕ, Bool, false, not, ◌==◌, ◌&&◌, ◌||◌, if◌then◌else◌, List, [], ◌∷◌, codes}
+use Rattle.std.specs.List.{list_all}
+use Rattle.std.specs.Str.{bytes_eq}
+use Rattle.hv_lex.specs.Lines.{onto}
+use Rattle.hv_lex.specs.Tokens.{is_plain}
+
+-- the line has only printable bytes of ASCII and tabs
+unfoldable pub is_allowed : List ℕ → Bool
+is_allowed line = list_all is_plain line
+
+-- a blank or a tab
+unfoldable pub is_blank : ℕ → Bool
+is_blank c = c == 32 || c == 9
+
+-- what words are made of: neither a blank, nor a tab, nor `#`
+unfoldable pub is_word_byte : ℕ → Bool
+is_word_byte c = not (is_blank c || c == 35)
+
+-- the text begins with a byte of a word
+unfoldable pub begins_word : List ℕ → Bool
+begins_word [] = false
+begins_word (c ∷ cs) = is_word_byte c
+
+-- the words of a line: its longest runs without blanks and tabs before the first `#`, byte 35
+unfoldable pub words_of : List ℕ → List (List ℕ)
+words_of [] = []
+words_of (c ∷ cs) =
+    if is_blank c then words_of cs
+    else if c == 35 then []
+    else if begins_word cs then onto c (words_of cs)
+    else (c ∷ []) ∷ words_of cs
+
+-- the words are exactly `job` and `1`
+unfoldable pub is_header : List (List ℕ) → Bool
+is_header (job ∷ version ∷ []) = bytes_eq job (codes "job") && bytes_eq version (codes "1")
+is_header _ = false
+
+-- the first word is this text
+unfoldable pub begins_with : List ℕ → List (List ℕ) → Bool
+begins_with text [] = false
+begins_with text (word ∷ words) = bytes_eq word text
+
+-- the only word is this text
+unfoldable pub is_only : List ℕ → List (List ℕ) → Bool
+is_only text (word ∷ []) = bytes_eq word text
+is_only text _ = false

@@ -1,5 +1,6 @@
 //! Why a job can't be built.
 
+use std::alloc::AllocError;
 use std::fmt::{self, Display, Formatter};
 use thiserror::Error;
 
@@ -35,4 +36,15 @@ pub enum BuildEnd {
     /// Memory is wanting.
     #[error("memory is wanting")]
     Memory,
+}
+
+impl From<AllocError> for BuildEnd {
+    ghost use Rattle.std.specs.Prelude.{◌≡◌};
+    ghost use Rattle.hv_load.specs.declared.ends.BuildEnd.TheVariants.{Memory};
+
+    ghost from_gives = { λ _ end. end ≡ Memory };
+
+    fn from(_error: AllocError) -> BuildEnd {
+        BuildEnd::Memory
+    }
 }

@@ -1,0 +1,9 @@
+pub mod Doing
+pub mod Keeping
+pub mod Lists
+pub mod Naming
+pub mod Placing
+pub mod Reaching
+pub mod Samples
+pub mod Taking
+pub mod Writing

@@ -1,0 +1,10 @@
+pub mod Building
+pub mod Answers
+pub mod Pages
+pub mod Finding
+pub mod Making
+pub mod Taking
+pub mod Directives
+pub mod Tower
+pub mod Build
+pub mod Ready

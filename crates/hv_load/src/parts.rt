@@ -1,0 +1,166 @@
+//! What a job has come to while it is built is made of these.
+
+ghost use Rattle.std.specs.Prelude.{◌≡◌, ◌≤◌, IfOk, length, take, ◌-◌, ◌++◌, ◌∷◌, []};
+ghost use Rattle.hv_load.specs.Building.{known as known_of, known_inside as known_inside_of, named as named_in};
+ghost use Rattle.hv_load.specs.Pages.{outer as outer_of};
+ghost use Rattle.hv_map.specs.Chain.{depth_limit};
+ghost use Rattle.std.specs.Prelude.{is_some};
+
+use crate::ends::BuildKind;
+use hv_job::Name;
+use hv_map::{Path, Watch};
+use std::alloc::{AllocError, AllocFailed};
+use std::marker::Model;
+
+/// What a bare page was given to.
+#[derive(Clone, Copy, Debug, PartialEq, Eq)]
+pub(crate) enum Mark {
+    /// Nothing yet.
+    Free,
+    /// A machine's block or its table.
+    Control,
+    /// The words of an image.
+    Image,
+}
+
+/// A watch, and the number of the line that asks for it.
+#[derive(Drop)]
+pub(crate) struct Asked {
+    pub(crate) line: u32,
+    pub(crate) watch: Watch,
+}
+
+/// A machine: its name, the path to it, and how many pages its line gave it.
+#[derive(Drop)]
+pub(crate) struct Entry {
+    pub(crate) name: Name,
+    pub(crate) path: Path,
+    pub(crate) pages: u32,
+}
+
+impl Model for Entry {
+    ghost use Rattle.std.specs.Prelude.{◌≤◌};
+    ghost use Rattle.hv_load.specs.Building.{Known};
+
+    ghost Value = { Known };
+
+    ghost view = { λ e. record { name = e.name; path = e.path; pages = e.pages } };
+
+    ghost invariant = { λ e. e.pages ≤ 16384 };
+}
+
+impl Entry {
+    /// The same entry.
+    pub(crate) fn copied(&self) -> Entry
+        ensures { result ≡ self.now }
+    {
+        Entry {
+            name: self.name.copied(),
+            path: copied_path(&self.path),
+            pages: self.pages,
+        }
+    }
+}
+
+/// Why a line isn't done.
+#[derive(Clone, Copy, Debug, PartialEq, Eq)]
+pub(crate) enum LineEnd {
+    Fault(BuildKind),
+    Memory,
+}
+
+impl From<BuildKind> for LineEnd {
+    ghost use Rattle.std.specs.Prelude.{◌≡◌};
+    ghost use Rattle.hv_load.specs.declared.parts.LineEnd.TheVariants.{Fault};
+
+    ghost from_gives = { λ kind end. end ≡ Fault kind };
+
+    fn from(kind: BuildKind) -> LineEnd {
+        LineEnd::Fault(kind)
+    }
+}
+
+impl From<AllocError> for LineEnd {
+    ghost use Rattle.std.specs.Prelude.{◌≡◌};
+    ghost use Rattle.hv_load.specs.declared.parts.LineEnd.TheVariants.{Memory};
+
+    ghost from_gives = { λ _ end. end ≡ Memory };
+
+    fn from(_error: AllocError) -> LineEnd {
+        LineEnd::Memory
+    }
+}
+
+impl<T: Drop> From<AllocFailed<T>> for LineEnd {
+    ghost use Rattle.std.specs.Prelude.{◌≡◌};
+    ghost use Rattle.hv_load.specs.declared.parts.LineEnd.TheVariants.{Memory};
+
+    ghost from_gives = { λ _ end. end ≡ Memory };
+
+    fn from(_failed: AllocFailed<T>) -> LineEnd {
+        LineEnd::Memory
+    }
+}
+
+/// The first machine of this name.
+#[tactic(auto, using(crate::proofs::Lists::lists))]
+pub(crate) fn named(name: &[u8], names: &[Entry]) -> Option<Entry>
+    ensures { result ≡ named_in name.now names.now }
+{
+    for entry in names {
+        if entry.name.is(name) {
+            return Some(entry.copied());
+        }
+    }
+    None
+}
+
+/// The same where there must be one.
+pub(crate) fn known(name: &[u8], names: &[Entry]) -> Result<Entry, BuildKind>
+    ensures { result ≡ known_of name.now names.now }
+{
+    match named(name, names) {
+        Some(entry) => Ok(entry),
+        None => Err(BuildKind::Unknown),
+    }
+}
+
+/// The same where it must lie in another machine.
+pub(crate) fn known_inside(name: &[u8], names: &[Entry]) -> Result<Entry, BuildKind>
+    ensures known { result ≡ known_inside_of name.now names.now }
+    ensures deep { IfOk result (λ k. 1 ≤ length k.path) }
+{
+    let entry = known(name, names)?;
+    if entry.path.as_slice().is_empty() {
+        return Err(BuildKind::Unknown);
+    }
+    Ok(entry)
+}
+
+/// The path of these syllables.
+fn path_of(syllables: &[u32]) -> Path
+    requires { length syllables.now ≤ depth_limit }
+    ensures { result ≡ syllables.now }
+{
+    let mut path = Path::new();
+    for syllable in syllables {
+        path.push(*syllable);
+    }
+    path
+}
+
+/// The same path.
+pub(crate) fn copied_path(path: &Path) -> Path
+    ensures { result ≡ path.now }
+{
+    path_of(path.as_slice())
+}
+
+/// The path to the parent of a machine.
+pub(crate) fn outer(path: &Path) -> Path
+    requires { 1 ≤ length path.now }
+    ensures { result ≡ outer_of path.now }
+{
+    let syllables = path.as_slice();
+    path_of(&syllables[..syllables.len() - 1])
+}

@@ -5,13 +5,10 @@ use Rattle.hv_lex.specs.Lines.{lines_of}
 use Rattle.std.specs.Prelude.{IsErrAnd}
 use Rattle.hv_job.specs.Asked.{asked_of}
 use Rattle.hv_job.specs.Drafted.{LeadsTo, Refuses}
-use Rattle.hv_job.specs.JobOf.{Answer, added, and_then, asked_with, at_line, begins_image, body_from, draft_of, has_words, header_from, is_image, job_in, line_with, storage_from, storage_pages, storage_with}
+use Rattle.hv_job.specs.JobOf.{Answer, and_then, begins_image, body_from, draft_of, has_words, header_from, is_image, job_in, line_with, storage_from, storage_pages, storage_with}
 use Rattle.hv_job.specs.Lines.{is_allowed, is_header, words_of}
 use Rattle.hv_job.specs.declared.asked.Asked.{Asked}
-use Rattle.hv_job.specs.declared.asked.Asked.TheVariants as asks
 use Rattle.hv_job.specs.declared.draft.Draft.{Draft}
-use Rattle.hv_job.specs.declared.draft.LineEnd.{LineEnd}
-use Rattle.hv_job.specs.declared.draft.LineEnd.TheVariants as lined
 use Rattle.hv_job.specs.declared.ends.JobEnd.{JobEnd}
 use Rattle.hv_job.specs.declared.ends.JobEnd.TheVariants.{JobFault, Memory}
 use Rattle.hv_job.specs.declared.ends.JobKind.{JobKind}

@@ -1,14 +1,12 @@
 -- The job of a text keeps the ranges and the limits.
-use Rattle.std.proofs.Common.{◌≡◌, ◌⊎◌, ℕ, ◌+◌, ◌*◌, ◌%◌, ◌^◌, ◌<◌, ◌≤◌, Bool, true, false, not, cond, codes, List, [], ◌∷◌, ◌++◌, length, map, Option, Some, None, Result, Ok, Err, refl, sym, ap, ◌∙◌, subst, arith, append-nil}
+use Rattle.std.proofs.Common.{◌≡◌, ℕ, ◌+◌, ◌%◌, ◌^◌, ◌<◌, ◌≤◌, Bool, true, false, not, cond, codes, List, [], ◌∷◌, ◌++◌, length, map, Option, Some, None, Result, Ok, Err, refl, sym, ap, ◌∙◌, subst, arith, append-nil}
 use Rattle.std.specs.Prelude.{All, filter_map, find, unwrap_or}
 use Rattle.std.specs.List.{cons_option}
 use Rattle.std.proofs.lemmas.List.{map-append}
 use Rattle.std.proofs.lemmas.List.Elements.{All-append, All-cons, All-nil, filter_map-append}
 use Rattle.hv_asm.specs.Assembly.{asm_of}
 use Rattle.hv_asm.specs.declared.AsmKind.{AsmKind}
-use Rattle.hv_asm.specs.declared.Image.{Image}
 use Rattle.hv_asm.proofs.Extent.{asm_extent, lines_extent}
-use Rattle.hv_irq.specs.Events.{refusal_of}
 use Rattle.hv_irq.specs.declared.Event.{Event}
 use Rattle.hv_irq.specs.declared.Event.TheVariants as event
 use Rattle.hv_irq.specs.declared.PushEnd.{PushEnd}
@@ -16,8 +14,8 @@ use Rattle.hv_lex.specs.Lines.{lines_of}
 use Rattle.hv_samples.specs.Samples.{sample_text}
 use Rattle.hv_job.specs.Asked.{asked_of}
 use Rattle.hv_job.specs.IsAsked.{IsAsked}
-use Rattle.hv_job.specs.IsJob.{IsImage, IsJob, IsRanged, IsSize, bytes_of, count_of, event_in, event_of, happening_of, image_bytes, is_dump, is_machine, is_watch}
-use Rattle.hv_job.specs.JobOf.{added, and_then, asked_with, at_line, before_end, begins_image, body_from, draft_of, event_with, happened, harts_with, has_words, header_from, image_added, image_of, image_with, image_words, is_end, is_image, is_many, job_in, job_of, line_with, lines_with, pages_of, placed, sample_with, storage_from, storage_pages, storage_with, words_with}
+use Rattle.hv_job.specs.IsJob.{IsImage, IsJob, IsRanged, IsSize, count_of, event_in, event_of, happening_of, image_bytes, is_dump, is_machine, is_watch}
+use Rattle.hv_job.specs.JobOf.{added, and_then, asked_with, at_line, before_end, begins_image, body_from, draft_of, event_with, happened, harts_with, has_words, header_from, image_added, image_of, image_with, image_words, is_end, is_many, job_in, job_of, line_with, lines_with, pages_of, placed, sample_with, storage_from, storage_pages, storage_with, words_with}
 use Rattle.hv_job.specs.Lines.{begins_with, is_allowed, is_header, words_of}
 use Rattle.hv_job.specs.declared.asked.Asked.{Asked}
 use Rattle.hv_job.specs.declared.asked.Asked.TheVariants as asks

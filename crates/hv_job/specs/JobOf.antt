@@ -10,9 +10,8 @@ use Rattle.hv_irq.specs.declared.PushEnd.{PushEnd}
 use Rattle.hv_irq.specs.declared.PushEnd.TheVariants as pushed
 use Rattle.hv_lex.specs.Lines.{lines_of}
 use Rattle.hv_samples.specs.Samples.{sample_text}
-use Rattle.hv_samples.specs.declared.choice.Sample.{Sample}
 use Rattle.hv_job.specs.Asked.{asked_of}
-use Rattle.hv_job.specs.IsJob.{bytes_of, count_of, image_bytes, is_dump, is_machine, is_watch}
+use Rattle.hv_job.specs.IsJob.{count_of, image_bytes, is_dump, is_machine, is_watch}
 use Rattle.hv_job.specs.Lines.{begins_with, is_allowed, is_header, is_only, words_of}
 use Rattle.hv_job.specs.declared.asked.Asked.{Asked}
 use Rattle.hv_job.specs.declared.asked.Asked.TheVariants as asks

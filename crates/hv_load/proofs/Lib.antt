@@ -1,4 +1,5 @@
 pub mod Doing
+pub mod Generated
 pub mod Keeping
 pub mod Lists
 pub mod Naming

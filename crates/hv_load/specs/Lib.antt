@@ -7,4 +7,5 @@ pub mod Taking
 pub mod Directives
 pub mod Tower
 pub mod Build
+pub mod Generator
 pub mod Ready

@@ -9,6 +9,7 @@ ghost use Rattle.hv_load.specs.Ready.{IsReady};
 mod builder;
 mod ends;
 mod finding;
+mod generating;
 mod levels;
 mod lines;
 mod making;
@@ -20,6 +21,7 @@ mod tests;
 
 use builder::Builder;
 pub use ends::{BuildEnd, BuildKind};
+pub use generating::gen_job;
 use hv_job::Job;
 pub use levels::tower;
 use parts::LineEnd;

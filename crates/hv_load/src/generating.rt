@@ -1,0 +1,237 @@
+//! The job of a number: a kernel of additions at the top of a tower, and turns that run it.
+
+ghost use Rattle.std.specs.Prelude.{◌≡◌, ◌+◌, ◌<◌, ◌≤◌, ◌++◌, ◌∷◌, [], IfOk, OnOk, length};
+ghost use Rattle.hv_irq.specs.Events.{total_of};
+ghost use Rattle.hv_irq.specs.declared.TheConstants.{EVENTS, STEPS};
+ghost use Rattle.hv_isa.specs.Table.{Fits, row_of};
+ghost use Rattle.hv_job.specs.IsJob.{IsJob};
+ghost use Rattle.hv_load.specs.Generator.{addition as addition_of, gen_job_of, jump_back as jump_back_of, kernel_of, lines_of, next as next_of, register as register_of, schedule_of};
+
+use crate::levels::name;
+use hv_asm::{Image, Words};
+use hv_irq::{Event, PushEnd, Recording};
+use hv_isa::{Instr, Op, encode};
+use hv_job::{Directive, Items, Job, Placed};
+use hv_samples::Sample;
+use hv_word::sext;
+use std::alloc::{AllocError, Global};
+
+/// The pages of the storage: those of a tower of 8 machines.
+const PAGES: u32 = 28;
+
+/// The pages of the machine at the top.
+const TOP_PAGES: u32 = 4;
+
+/// The additions of the kernel, which stand before its jump.
+const ADDITIONS: u32 = 511;
+
+/// The long turns, and the steps of each.
+const TURNS: u32 = 100;
+
+const TURN_STEPS: u32 = 2000;
+
+/// The steps that a level takes to enter the next.
+const ENTRY_STEPS: u32 = 3;
+
+/// The lines of the tower, the kernel and the first turn, as in a text that has a line for each word of the kernel.
+const TOWER_LINE: u32 = 3;
+
+const KERNEL_LINE: u32 = 4;
+
+const FIRST_TURN_LINE: u32 = 518;
+
+/// The job of a number: a kernel of 512 words at the top of a tower of `number` mod 9 machines, which hart 0 runs for
+/// 200,000 steps, and a watch on it.
+#[tactic(auto, unfolding(crate::specs::Generator::gen_job_of))]
+pub fn gen_job(alloc: Global, number: u32) -> Result<Job, AllocError>
+    ensures job { IfOk result (λ job. job ≡ gen_job_of number) }
+    ensures limits { IfOk result IsJob }
+{
+    let depth = number % 9;
+    let kernel = kernel(alloc, number / 9)?;
+    let recording = schedule(alloc, depth)?;
+    let turns = recording.events().len() as u32;
+    Ok(Job {
+        pages: PAGES,
+        harts: 1,
+        lines: Items::new(lines(alloc, depth, kernel, turns)?),
+        recording,
+        commands: Items::new(Vec::new(alloc)),
+    })
+}
+
+// The words of the kernel.
+fn kernel(alloc: Global, seed: u32) -> Result<Words, AllocError>
+    ensures { IfOk result (λ words. words ≡ kernel_of seed) }
+{
+    let mut words = Vec::new(alloc);
+    let mut number = seed;
+    for place in 0..ADDITIONS {
+        number = next(number);
+        words.push(encode(&addition(number)))?;
+    }
+    words.push(encode(&jump_back()))?;
+    Ok(Words::new(words))
+}
+
+// The number behind a number.
+fn next(number: u32) -> u32
+    ensures { result ≡ next_of number }
+{
+    number.wrapping_mul(1_664_525).wrapping_add(1_013_904_223)
+}
+
+// The `addi` of a number.
+fn addition(number: u32) -> Instr
+    ensures value { result ≡ addition_of number }
+    ensures fits { Fits (row_of result.op) result }
+{
+    Instr {
+        op: Op::Addi,
+        rd: register(number >> 8),
+        rs1: register(number >> 16),
+        rs2: 0,
+        imm: sext::<12>(number >> 20),
+    }
+}
+
+// A register, which isn't x0.
+fn register(number: u32) -> u8
+    ensures { result ≡ register_of number }
+{
+    1 + (number % 31) as u8
+}
+
+// The jump from behind the additions to the first of them.
+fn jump_back() -> Instr
+    ensures value { result ≡ jump_back_of }
+    ensures fits { Fits (row_of result.op) result }
+{
+    Instr {
+        op: Op::Jal,
+        rd: 0,
+        rs1: 0,
+        rs2: 0,
+        imm: (4 * ADDITIONS).wrapping_neg(),
+    }
+}
+
+// The turns of hart 0.
+#[tactic(auto, unfolding(crate::specs::Generator::schedule_of))]
+fn schedule(alloc: Global, depth: u32) -> Result<Recording, AllocError>
+    requires { depth ≤ 8 }
+    ensures { IfOk result (λ recording. recording ≡ schedule_of depth) }
+{
+    let mut recording = Recording::new(alloc);
+    if depth > 0 {
+        push_turn(&mut recording, ENTRY_STEPS * depth)?;
+    }
+    for turn in 0..TURNS {
+        push_turn(&mut recording, TURN_STEPS)?;
+    }
+    Ok(recording)
+}
+
+// Appends a turn of hart 0 to a recording that has room for it.
+fn push_turn(recording: &mut Recording, count: u32) -> Result<(), AllocError>
+    requires steps { total_of recording.old + count ≤ STEPS }
+    requires many { length recording.old < EVENTS }
+    ensures { OnOk result (recording.new ≡ recording.old ++ Event.Turn 0 count ∷ []) }
+{
+    match recording.push(Event::Turn { hart: 0, count }) {
+        Ok(()) => Ok(()),
+        Err(PushEnd::Memory) => Err(AllocError),
+        Err(_) => unreachable!("the recording has room"),
+    }
+}
+
+// The directives: the tower, the kernel, the turns and the watch.
+fn lines(alloc: Global, depth: u32, words: Words, turns: u32) -> Result<Vec<Placed>, AllocError>
+    requires { turns ≤ EVENTS }
+    ensures { IfOk result (λ lines. lines.items ≡ lines_of depth words turns) }
+{
+    let mut lines = Vec::new(alloc);
+    lines.push(Placed {
+        line: TOWER_LINE,
+        what: Directive::Tower {
+            depth,
+            pages: TOP_PAGES,
+            which: Sample::Pass,
+        },
+    })?;
+    lines.push(Placed {
+        line: KERNEL_LINE,
+        what: Directive::Image {
+            name: name(b"top"),
+            image: Image { base: 0, words },
+        },
+    })?;
+    for turn in 0..turns {
+        lines.push(Placed {
+            line: FIRST_TURN_LINE + turn,
+            what: Directive::Turn { hart: 0 },
+        })?;
+    }
+    lines.push(Placed {
+        line: FIRST_TURN_LINE + turns,
+        what: Directive::Watch {
+            hart: 0,
+            name: name(b"top"),
+        },
+    })?;
+    Ok(lines)
+}
+
+#[cfg(test)]
+mod tests {
+    use super::*;
+    use std::test::Fail;
+
+    // The words of the first image of a job.
+    fn image_words(job: &Job) -> &[u32] {
+        for placed in job.lines.as_slice() {
+            if let Directive::Image { image, .. } = &placed.what {
+                return image.words.as_slice();
+            }
+        }
+        &[]
+    }
+
+    // The depth of the first line of a job.
+    fn depth(job: &Job) -> Option<u32> {
+        match job.lines.as_slice().first()?.what {
+            Directive::Tower { depth, .. } => Some(depth),
+            _ => None,
+        }
+    }
+
+    // The words as a program in another language gives them, and `jal x0, -2044`.
+    #[test]
+    fn a_kernel_has_the_words_of_its_seed(rt: HostRuntime) -> Result<(), Fail> {
+        for (number, deep, first, second, last) in [
+            (5, 5, 0x3C61_0213, 0x475E_8913, 0x4A92_8193),
+            (4_294_967_295, 3, 0x7548_0A93, 0x041E_0793, 0x3E9F_8A13),
+        ] {
+            let job = gen_job(rt.alloc(), number)?;
+            assert_eq!(rt; depth(&job), Some(deep));
+            let words = image_words(&job);
+            assert_eq!(rt; words.len(), 512);
+            assert_eq!(rt; words[0], first);
+            assert_eq!(rt; words[1], second);
+            assert_eq!(rt; words[510], last);
+            assert_eq!(rt; words[511], 0x805F_F06F);
+        }
+        Ok(())
+    }
+
+    #[test]
+    fn a_bare_machine_takes_no_steps_to_be_entered(rt: HostRuntime) -> Result<(), Fail> {
+        let job = gen_job(rt.alloc(), 0)?;
+        assert_eq!(rt; job.recording.total(), 200_000);
+        assert_eq!(rt; job.lines.as_slice().len(), 103);
+        let job = gen_job(rt.alloc(), 8)?;
+        assert_eq!(rt; job.recording.total(), 200_024);
+        assert_eq!(rt; job.lines.as_slice().len(), 104);
+        Ok(())
+    }
+}

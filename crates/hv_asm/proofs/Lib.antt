@@ -8,3 +8,4 @@ pub mod Telling
 pub mod Written
 pub mod Named
 pub mod FormLines
+pub mod Extent

@@ -1,5 +1,5 @@
 -- A text as its lines.
-use Rattle.std.specs.Prelude.{ℕ, ◌==◌, if◌then◌else◌, List, [], ◌∷◌, map}
+use Rattle.std.specs.Prelude.{◌≡◌, ℕ, ◌==◌, if◌then◌else◌, List, [], ◌∷◌, ◌++◌, map}
 
 -- the lists with c at the front of the first of them; where there is none, a list of its own
 abbrev pub onto : ℕ → List (List ℕ) → List (List ℕ)
@@ -20,3 +20,7 @@ returned (c ∷ d ∷ ds) = c ∷ returned (d ∷ ds)
 -- the lines of a text
 unfoldable pub lines_of : List ℕ → List (List ℕ)
 lines_of text = map returned (cut_of text)
+
+-- a text that is this line, its line feed included, whatever stands behind it
+abbrev pub IsLine : List ℕ → List ℕ → Type 0
+IsLine line text = (rest : List ℕ) → lines_of (text ++ rest) ≡ line ∷ lines_of rest

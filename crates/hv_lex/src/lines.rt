@@ -1,7 +1,7 @@
 //! Cutting a text into lines.
 
-ghost use Rattle.std.specs.Prelude.{◌≡◌, ◌≢◌, ℕ, ◌+◌, ◌<◌, ◌≤◌, ◌∷◌, length, slice_index};
-ghost use Rattle.hv_lex.specs.Lines.{cut_of, lines_of, returned as returned_of};
+ghost use Rattle.std.specs.Prelude.{◌≡◌, ◌≢◌, ℕ, ◌+◌, ◌-◌, ◌<◌, ◌≤◌, List, ◌∷◌, ◌++◌, length, take, drop, slice_index};
+ghost use Rattle.hv_lex.specs.Lines.{IsLine, cut_of, lines_of, returned as returned_of};
 
 /// The first line of a text, without its line feed and without a carriage return at its end, and the text behind it.
 pub fn first_line(text: &[u8]) -> (&[u8], &[u8])
@@ -9,6 +9,9 @@ pub fn first_line(text: &[u8]) -> (&[u8], &[u8])
     ensures cut { lines_of text.now ≡ result.0.now ∷ lines_of result.1.now }
     ensures shorter { length result.0.now + length result.1.now ≤ length text.now }
     ensures behind { length result.1.now < length text.now }
+    ensures rest { result.1.now ≡ drop (length text.now - length result.1.now) text.now }
+    ensures front { 0 < length result.1.now
+        → IsLine result.0.now (take (length text.now - length result.1.now) text.now) }
 {
     let (line, rest) = first_cut(text);
     (returned(line), rest)
@@ -20,6 +23,9 @@ fn first_cut(text: &[u8]) -> (&[u8], &[u8])
     ensures cut { cut_of text.now ≡ result.0.now ∷ cut_of result.1.now }
     ensures shorter { length result.0.now + length result.1.now ≤ length text.now }
     ensures behind { length result.1.now < length text.now }
+    ensures rest { result.1.now ≡ drop (length text.now - length result.1.now) text.now }
+    ensures front { 0 < length result.1.now → (rest : List ℕ)
+        → cut_of (take (length text.now - length result.1.now) text.now ++ rest) ≡ result.0.now ∷ cut_of rest }
 {
     let end = find(text, b'\n');
     let (line, rest) = text.split_at(end);

@@ -12,7 +12,7 @@ pub use checking::{has_twin, put_checked};
 pub use dumps::read_page;
 pub use machine::machine_words;
 pub use puts::{put, put_hex8, put_number, put_path};
-pub use reporting::report;
+pub use reporting::{put_hart, report};
 pub use summing::summary;
 
 #[cfg(test)]

@@ -58,8 +58,13 @@ pub(crate) fn put_harts<N: Nested>(alloc: Global, out: &mut Vec<u8>, nested: &mu
     Ok(())
 }
 
-// Appends the line of a hart and of the machine that it runs.
-fn put_hart(alloc: Global, out: &mut Vec<u8>, hart: u32, running: &Path) -> Result<(), AllocError>
+/// Appends the line of a hart and of the machine that it runs.
+pub fn put_hart(
+    alloc: Global,
+    out: &mut Vec<u8>,
+    hart: u32,
+    running: &Path,
+) -> Result<(), AllocError>
     ensures { OnOk result (out.new.items ≡ out.old.items ++ hart_line hart running.now) }
 {
     put_number(alloc, out, b"hart ", u64::from(hart))?;

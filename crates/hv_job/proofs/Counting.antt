@@ -1,11 +1,11 @@
 -- Counts of directives, with one more behind.
-use Rattle.std.proofs.Common.{◌≡◌, ℕ, ◌+◌, ◌≤◌, Bool, false, cond, List, [], ◌∷◌, ◌++◌, sum_by, ap, ◌∙◌, arith, zero-add}
+use Rattle.std.proofs.Common.{◌≡◌, ℕ, ◌+◌, ◌*◌, ◌≤◌, ◌<◌, Bool, true, false, cond, List, [], ◌∷◌, ◌++◌, length, sum_by, refl, ap, ◌∙◌, arith, zero-add}
 use Rattle.std.proofs.lemmas.Bool.Decides.{nat_tests}
 use Rattle.std.proofs.lemmas.List.Sums.{sum_by-append}
 use Rattle.hv_job.specs.IsJob.{bytes_of, count_of, image_bytes, is_dump, is_machine, is_watch}
 use Rattle.hv_job.specs.JobOf.{is_many, lines_with}
 use Rattle.hv_job.specs.declared.job.Directive.{Directive}
-use Rattle.hv_job.specs.declared.job.Directive.TheVariants.{Machine, Image, Sample, Watch, Dump}
+use Rattle.hv_job.specs.declared.job.Directive.TheVariants.{Hart, Machine, Map, Start, Image, Sample, Word, Tower, Turn, Lines, Watch, Dump}
 use Rattle.hv_job.specs.declared.job.Placed.{Placed}
 
 summed : (f : Placed → ℕ) (lines : List Placed) (placed : Placed) → sum_by f (lines ++ placed ∷ []) ≡ sum_by f lines + f placed

@@ -4,15 +4,21 @@ use Rattle.std.proofs.lemmas.Bool.{ltb-false}
 use Rattle.hv_lex.specs.Lines.{lines_of}
 use Rattle.std.specs.Prelude.{IsErrAnd}
 use Rattle.hv_job.specs.Asked.{asked_of}
-use Rattle.hv_job.specs.Drafted.{LeadsTo, Refuses}
-use Rattle.hv_job.specs.JobOf.{Answer, and_then, begins_image, body_from, draft_of, has_words, header_from, is_image, job_in, line_with, storage_from, storage_pages, storage_with}
-use Rattle.hv_job.specs.Lines.{is_allowed, is_header, words_of}
+use Rattle.hv_job.specs.Commands.{commands_from}
+use Rattle.hv_job.specs.Drafted.{GivesJob, Refuses}
+use Rattle.hv_job.specs.JobOf.{Answer, added, and_then, asked_with, at_line, begins_image, body_from, draft_of, header_from, is_debug, is_image, job_in, job_with, line_with, storage_from, storage_pages, storage_with}
+use Rattle.hv_job.specs.Lines.{has_words, is_allowed, is_header, words_of}
 use Rattle.hv_job.specs.declared.asked.Asked.{Asked}
+use Rattle.hv_job.specs.declared.asked.Asked.TheVariants as asks
 use Rattle.hv_job.specs.declared.draft.Draft.{Draft}
+use Rattle.hv_job.specs.declared.draft.LineEnd.{LineEnd}
+use Rattle.hv_job.specs.declared.draft.LineEnd.TheVariants as lined
 use Rattle.hv_job.specs.declared.ends.JobEnd.{JobEnd}
 use Rattle.hv_job.specs.declared.ends.JobEnd.TheVariants.{JobFault, Memory}
 use Rattle.hv_job.specs.declared.ends.JobKind.{JobKind}
 use Rattle.hv_job.specs.declared.ends.JobKind.TheVariants as fault
+use Rattle.hv_job.specs.declared.job.DebugLine.{DebugLine}
+use Rattle.hv_job.specs.declared.job.Job.{Job}
 use Rattle.hv_job.proofs.Ending.{no_lines}
 
 -- the header
@@ -69,24 +75,35 @@ module _ (n : ℕ) (s line behind : List ℕ) (all : Answer) (cut : lines_of s �
   storage_found pages told a w p = sym told ∙ storage_is true true a w ∙ ap (storage_with n (lines_of behind)) p
 
 -- the lines behind it
-pub body_end : (draft : Draft) (n : ℕ) (s : List ℕ) (all : Answer) → length s ≡ 0 → body_from draft false n (lines_of s) ≡ all → all ≡ Ok (job_in draft)
+pub body_end : (draft : Draft) (n : ℕ) (s : List ℕ) (all : Answer) (commands : List DebugLine) (job : Job) → length s ≡ 0 → body_from draft false n (lines_of s) ≡ all → job ≡ job_in draft commands → commands ≡ [] → all ≡ Ok job
 unfolding body_from
-body_end draft n s all none told = sym told ∙ ap (body_from draft false n) (no_lines s none)
+body_end draft n s all commands job none told is empty =
+    rw (is, empty) (sym told ∙ ap (body_from draft false n) (no_lines s none))
 
 module _ (draft : Draft) (n : ℕ) (s line behind : List ℕ) (all : Answer) (cut : lines_of s ≡ line ∷ lines_of behind) (told : body_from draft false n (lines_of s) ≡ all) where
   abbrev next : Draft → Answer
   next new = body_from new (begins_image line) (n + 1) (lines_of behind)
 
-  body_is : body_from draft false n (lines_of s) ≡ and_then (line_with draft n line (lines_of behind)) next
+  abbrev ended : Answer
+  ended = job_with draft (commands_from [] (n + 1) (lines_of behind))
+
+  body_is : (last : Bool) → is_debug line ≡ last → body_from draft false n (lines_of s) ≡ cond last ended (and_then (line_with draft n line (lines_of behind)) next)
   unfolding body_from
-  body_is = ap (body_from draft false n) cut
+  body_is last d = ap (body_from draft false n) cut ∙ ap (λ b. cond b ended (and_then (line_with draft n line (lines_of behind)) next)) d
 
-  pub body_more : (new : Draft) (m : ℕ) (rest : List ℕ) → line_with draft n line (lines_of behind) ≡ Ok new → body_from new (begins_image line) (n + 1) (lines_of behind) ≡ body_from new false m (lines_of rest) → body_from new false m (lines_of rest) ≡ all
-  body_more new m rest made goes = sym goes ∙ sym (ap (λ r. and_then r next) made) ∙ sym body_is ∙ told
+  pub body_more : is_debug line ≡ false → (new : Draft) (m : ℕ) (rest : List ℕ) → line_with draft n line (lines_of behind) ≡ Ok new → body_from new (begins_image line) (n + 1) (lines_of behind) ≡ body_from new false m (lines_of rest) → body_from new false m (lines_of rest) ≡ all
+  body_more d new m rest made goes = sym goes ∙ sym (ap (λ r. and_then r next) made) ∙ sym (body_is false d) ∙ told
 
-  pub body_refused : (end : JobEnd) → Refuses end (line_with draft n line (lines_of behind)) → Refuses end all
-  body_refused (JobFault k kind) made = sym told ∙ body_is ∙ ap (λ r. and_then r next) made
-  body_refused Memory made = tt
+  pub body_refused : is_debug line ≡ false → (end : JobEnd) → Refuses end (line_with draft n line (lines_of behind)) → Refuses end all
+  body_refused d (JobFault k kind) made = sym told ∙ body_is false d ∙ ap (λ r. and_then r next) made
+  body_refused d Memory made = tt
+
+  pub body_ended : is_debug line ≡ true → (commands : List DebugLine) → commands_from [] (n + 1) (lines_of behind) ≡ Ok commands → all ≡ Ok (job_in draft commands)
+  body_ended d commands made = sym told ∙ body_is true d ∙ ap (job_with draft) made
+
+  pub body_stopped : is_debug line ≡ true → (end : JobEnd) → Refuses end (commands_from [] (n + 1) (lines_of behind)) → Refuses end all
+  body_stopped d (JobFault k kind) made = sym told ∙ body_is true d ∙ ap (job_with draft) made
+  body_stopped d Memory made = tt
 
 -- a line without words begins no image
 no_words : (words : List (List ℕ)) → nat_lt 0 (length words) ≡ false → is_image (asked_of words) ≡ false
@@ -103,6 +120,6 @@ unfolding begins_image
 begins line asked is = ap is_image is
 
 -- a refusal that goes on as it is
-pub passes_on : {A : Type 0} (r : Result A JobEnd) (end : JobEnd) (text : Answer) (next : A → Answer) → IsErrAnd r (λ given. given ≡ end) → Refuses end text → LeadsTo r text next
-passes_on (Ok place) end text next is refuses = elim is [ ]
-passes_on (Err given) end text next is refuses = subst (λ given. Refuses given text) (sym is) refuses
+pub passes_on : (r : Result Job JobEnd) (end : JobEnd) (text : Answer) → IsErrAnd r (λ given. given ≡ end) → Refuses end text → GivesJob r text
+passes_on (Ok job) end text is refuses = elim is [ ]
+passes_on (Err given) end text is refuses = subst (λ given. Refuses given text) (sym is) refuses

@@ -1,32 +1,39 @@
 -- The job of a text keeps the ranges and the limits.
-use Rattle.std.proofs.Common.{◌≡◌, ℕ, ◌+◌, ◌%◌, ◌^◌, ◌<◌, ◌≤◌, Bool, true, false, not, cond, codes, List, [], ◌∷◌, ◌++◌, length, map, Option, Some, None, Result, Ok, Err, refl, sym, ap, ◌∙◌, subst, arith, append-nil}
-use Rattle.std.specs.Prelude.{All, filter_map, find, unwrap_or}
+use Rattle.std.proofs.Common.{◌≡◌, ◌⊎◌, ℕ, ◌+◌, ◌*◌, ◌%◌, ◌^◌, ◌<◌, ◌≤◌, Bool, true, false, not, cond, codes, List, [], ◌∷◌, ◌++◌, length, map, Option, Some, None, Result, Ok, Err, refl, sym, ap, ◌∙◌, subst, arith, append-nil}
+use Rattle.std.specs.Prelude.{All, IfOk, filter_map, find, unwrap_or}
 use Rattle.std.specs.List.{cons_option}
 use Rattle.std.proofs.lemmas.List.{map-append}
 use Rattle.std.proofs.lemmas.List.Elements.{All-append, All-cons, All-nil, filter_map-append}
 use Rattle.hv_asm.specs.Assembly.{asm_of}
 use Rattle.hv_asm.specs.declared.AsmKind.{AsmKind}
+use Rattle.hv_asm.specs.declared.Image.{Image}
 use Rattle.hv_asm.proofs.Extent.{asm_extent, lines_extent}
+use Rattle.hv_irq.specs.Events.{refusal_of}
 use Rattle.hv_irq.specs.declared.Event.{Event}
 use Rattle.hv_irq.specs.declared.Event.TheVariants as event
 use Rattle.hv_irq.specs.declared.PushEnd.{PushEnd}
 use Rattle.hv_lex.specs.Lines.{lines_of}
 use Rattle.hv_samples.specs.Samples.{sample_text}
 use Rattle.hv_job.specs.Asked.{asked_of}
+use Rattle.hv_job.specs.Commands.{commands_from}
+use Rattle.hv_job.specs.Drafted.{GivesJob}
 use Rattle.hv_job.specs.IsAsked.{IsAsked}
-use Rattle.hv_job.specs.IsJob.{IsImage, IsJob, IsRanged, IsSize, count_of, event_in, event_of, happening_of, image_bytes, is_dump, is_machine, is_watch}
-use Rattle.hv_job.specs.JobOf.{added, and_then, asked_with, at_line, before_end, begins_image, body_from, draft_of, event_with, happened, harts_with, has_words, header_from, image_added, image_of, image_with, image_words, is_end, is_many, job_in, job_of, line_with, lines_with, pages_of, placed, sample_with, storage_from, storage_pages, storage_with, words_with}
-use Rattle.hv_job.specs.Lines.{begins_with, is_allowed, is_header, words_of}
+use Rattle.hv_job.specs.IsJob.{IsImage, IsJob, IsRanged, IsSize, bytes_of, count_of, event_in, event_of, happening_of, image_bytes, is_dump, is_machine, is_watch}
+use Rattle.hv_job.specs.JobOf.{added, and_then, asked_with, at_line, before_end, begins_image, body_from, draft_of, event_with, happened, harts_with, header_from, image_added, image_of, image_with, image_words, is_debug, is_end, is_image, is_many, job_in, job_of, job_with, line_with, lines_with, pages_of, placed, sample_with, storage_from, storage_pages, storage_with, words_with}
+use Rattle.hv_job.specs.Lines.{begins_with, has_words, is_allowed, is_header, words_of}
 use Rattle.hv_job.specs.declared.asked.Asked.{Asked}
 use Rattle.hv_job.specs.declared.asked.Asked.TheVariants as asks
 use Rattle.hv_job.specs.declared.draft.Draft.{Draft}
+use Rattle.hv_job.specs.declared.ends.JobEnd.{JobEnd}
 use Rattle.hv_job.specs.declared.ends.JobKind.{JobKind}
 use Rattle.hv_job.specs.declared.ends.JobKind.TheVariants as fault
+use Rattle.hv_job.specs.declared.job.DebugLine.{DebugLine}
 use Rattle.hv_job.specs.declared.job.Directive.{Directive}
 use Rattle.hv_job.specs.declared.job.Directive.TheVariants as directive
 use Rattle.hv_job.specs.declared.job.Job.{Job}
 use Rattle.hv_job.specs.declared.job.Placed.{Placed}
 use Rattle.hv_job.proofs.Counting.{counted, sized, room_machines, room_watches, room_dumps, room_bytes}
+use Rattle.hv_job.proofs.Entering.{AreCommands, commands_are, no_commands}
 use Rattle.hv_job.proofs.Ranging.{asked_ranged}
 
 -- what the lines so far keep
@@ -182,16 +189,17 @@ words_is draft new n behind (Err kind) is ranged made = cc
 abbrev Drafted : Type 0
 Drafted = Result Draft (ℕ × JobKind)
 
-line_choice : (allowed words storage : Bool) (draft new : Draft) (n : ℕ) (r : Drafted) → IsDraft draft → (r ≡ Ok new → IsDraft new) → cond (not allowed) (Err (n, fault.Byte)) (cond (not words) (Ok draft) (cond storage (Err (n, fault.Directive)) r)) ≡ Ok new → IsDraft new
-line_choice false words storage draft new n r is goes made = cc
-line_choice true false storage draft new n r is goes made = let e : draft ≡ new = cc in subst IsDraft e is
-line_choice true true true draft new n r is goes made = cc
-line_choice true true false draft new n r is goes made = goes made
+line_choice : (allowed words storage debug : Bool) (draft new : Draft) (n : ℕ) (r : Drafted) → IsDraft draft → (r ≡ Ok new → IsDraft new) → cond (not allowed) (Err (n, fault.Byte)) (cond (not words) (Ok draft) (cond storage (Err (n, fault.Directive)) (cond debug (Err (n, fault.Words)) r))) ≡ Ok new → IsDraft new
+line_choice false words storage debug draft new n r is goes made = cc
+line_choice true false storage debug draft new n r is goes made = let e : draft ≡ new = cc in subst IsDraft e is
+line_choice true true true debug draft new n r is goes made = cc
+line_choice true true false true draft new n r is goes made = cc
+line_choice true true false false draft new n r is goes made = goes made
 
 line_is : (draft new : Draft) (n : ℕ) (line : List ℕ) (behind : List (List ℕ)) → IsDraft draft → line_with draft n line behind ≡ Ok new → IsDraft new
 unfolding line_with
 line_is draft new n line behind is made =
-    line_choice (is_allowed line) (has_words line) (begins_with (codes "storage") (words_of line)) draft new n
+    line_choice (is_allowed line) (has_words line) (begins_with (codes "storage") (words_of line)) (begins_with (codes "debug") (words_of line)) draft new n
     (words_with draft n behind (asked_of (words_of line))) is
     (words_is draft new n behind (asked_of (words_of line)) is (asked_ranged (words_of line))) made
 
@@ -206,8 +214,8 @@ harts_in : (o : Option ℕ) → ((n : ℕ) → o ≡ Some n → (1 ≤ n) × (n 
 harts_in (Some n) ranged = ranged n refl
 harts_in None ranged = (omega arith, omega arith)
 
-job_in_is : (draft : Draft) → IsDraft draft → IsJob (job_in draft)
-job_in_is draft is = record {
+job_in_is : (draft : Draft) (commands : List DebugLine) → IsDraft draft → AreCommands commands → IsJob (job_in draft commands)
+job_in_is draft commands is are = record {
   pages = is.pages;
   harts = harts_in draft.harts is.harts;
   lines = is.lines;
@@ -216,18 +224,33 @@ job_in_is draft is = record {
   watches = is.watches;
   dumps = is.dumps;
   images = is.images;
+  commands = are.ranged;
+  commanded = are.count;
+  breaks = are.breaks;
 }
 
 ok_job : (x y : Job) → (let r : Answered = Ok x in r) ≡ Ok y → x ≡ y
 ok_job x y is = cc
 
+found_or : (last : Bool) (ended goes : Answered) (job : Job) → (ended ≡ Ok job → IsJob job) → (goes ≡ Ok job → IsJob job) → cond last ended goes ≡ Ok job → IsJob job
+found_or true ended goes job f g made = f made
+found_or false ended goes job f g made = g made
+
+ended_is : (draft : Draft) (r : Result (List DebugLine) (ℕ × JobKind)) (job : Job) → IsDraft draft → ((commands : List DebugLine) → r ≡ Ok commands → AreCommands commands) → job_with draft r ≡ Ok job → IsJob job
+ended_is draft (Ok commands) job is are made = subst IsJob (ok_job _ job made) (job_in_is draft commands is (are commands refl))
+ended_is draft (Err e) job is are made = cc
+
 body_is : (lines : List (List ℕ)) (draft : Draft) (inside : Bool) (n : ℕ) (job : Job) → IsDraft draft → body_from draft inside n lines ≡ Ok job → IsJob job
 unfolding body_from
-body_is [] draft inside n job is made = subst IsJob (ok_job _ job made) (job_in_is draft is)
+body_is [] draft inside n job is made = subst IsJob (ok_job _ job made) (job_in_is draft [] is no_commands)
 body_is (line ∷ lines) draft true n job is made = body_is lines draft (not (is_end line)) (n + 1) job is made
 body_is (line ∷ lines) draft false n job is made =
-    let s = next_ok (line_with draft n line lines) (λ next. body_from next (begins_image line) (n + 1) lines) job made in
-    body_is lines s.0 (begins_image line) (n + 1) job (line_is draft s.0 n line lines is s.1) s.2
+    found_or (is_debug line) (job_with draft (commands_from [] (n + 1) lines))
+    (and_then (line_with draft n line lines) (λ next. body_from next (begins_image line) (n + 1) lines)) job
+    (ended_is draft (commands_from [] (n + 1) lines) job is (λ commands told. commands_are lines [] commands (n + 1) no_commands told))
+    (λ told.
+    let s = next_ok (line_with draft n line lines) (λ next. body_from next (begins_image line) (n + 1) lines) job told in
+    body_is lines s.0 (begins_image line) (n + 1) job (line_is draft s.0 n line lines is s.1) s.2) made
 
 size_is : (pages found : ℕ) (r : Result Asked JobKind) → ((asked : Asked) → r ≡ Ok asked → IsAsked asked) → pages_of r ≡ Ok found → IsSize found
 size_is pages found (Ok (asks.Storage p)) ranged made = let e : p ≡ found = cc in subst IsSize e (ranged (asks.Storage p) refl)
@@ -268,6 +291,7 @@ header_is (line ∷ lines) n job made =
     (cond (is_header (words_of line)) (storage_from (n + 1) lines) (Err (n, fault.Header))) job
     (header_is lines (n + 1) job) (found_is (is_header (words_of line)) n (storage_from (n + 1) lines) job (storage_is lines (n + 1) job)) made
 
-pub job_is : (text : List ℕ) (job : Job) → job_of text ≡ Ok job → IsJob job
+pub job_is : (text : List ℕ) (r : Result Job JobEnd) → GivesJob r (job_of text) → IfOk r IsJob
 unfolding job_of
-job_is text job made = header_is (lines_of text) 1 job made
+job_is text (Ok job) made = header_is (lines_of text) 1 job made
+job_is text (Err end) made = tt

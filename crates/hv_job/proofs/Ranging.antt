@@ -14,7 +14,7 @@ use Rattle.hv_job.specs.declared.ends.JobKind.{JobKind}
 use Rattle.hv_job.specs.declared.ends.JobKind.TheVariants as fault
 
 -- what passed a test, and then the next one
-then_ok : {A B : Type 0} (r : Result A JobKind) (f : A → Result B JobKind) (x : B) → (r >>= f) ≡ Ok x → (v : A) × (r ≡ Ok v) × (f v ≡ Ok x)
+pub then_ok : {A B : Type 0} (r : Result A JobKind) (f : A → Result B JobKind) (x : B) → (r >>= f) ≡ Ok x → (v : A) × (r ≡ Ok v) × (f v ≡ Ok x)
 then_ok (Ok v) f x is = (v, refl, is)
 then_ok (Err k) f x is = cc
 
@@ -32,7 +32,7 @@ chosen : (b : Bool) (n m : ℕ) → (let r : Result ℕ JobKind = cond b (Ok n) 
 chosen true n m is = let e : n ≡ m = cc in (refl, e)
 chosen false n m is = cc
 
-between_ok : (low high : ℕ) (word : List ℕ) (n : ℕ) → between low high word ≡ Ok n → (low ≤ n) × (n ≤ high)
+pub between_ok : (low high : ℕ) (word : List ℕ) (n : ℕ) → between low high word ≡ Ok n → (low ≤ n) × (n ≤ high)
 unfolding between
 between_ok low high word n is =
     let s = then_ok (number word) _ n is in
@@ -76,7 +76,7 @@ number_below : (word : List ℕ) (n : ℕ) → number word ≡ Ok n → n < 2 ^ 
 unfolding number
 number_below word n is = of_below word n (some_number (number_of word) n is)
 
-address_ok : (word : List ℕ) (n : ℕ) → address word ≡ Ok n → (n % 4 ≡ 0) × (n < 2 ^ 32)
+pub address_ok : (word : List ℕ) (n : ℕ) → address word ≡ Ok n → (n % 4 ≡ 0) × (n < 2 ^ 32)
 unfolding address
 address_ok word n is =
     let s = then_ok (number word) _ n is in

@@ -1,5 +1,5 @@
 -- What the reading of a text answers, beside its job.
-use Rattle.std.specs.Prelude.{◌≡◌, ℕ, ◌+◌, ◌^◌, ◌<◌, Result, Ok, Err}
+use Rattle.std.specs.Prelude.{◌≡◌, ℕ, ◌+◌, ◌^◌, ◌<◌, List, Result, Ok, Err}
 use Rattle.hv_asm.specs.declared.AsmEnd.{AsmEnd}
 use Rattle.hv_asm.specs.declared.AsmEnd.TheVariants as asm
 use Rattle.hv_job.specs.JobOf.{Answer, asm_kind}
@@ -9,6 +9,7 @@ use Rattle.hv_job.specs.declared.draft.LineEnd.TheVariants as line
 use Rattle.hv_job.specs.declared.ends.JobEnd.{JobEnd}
 use Rattle.hv_job.specs.declared.ends.JobEnd.TheVariants.{JobFault, Memory}
 use Rattle.hv_job.specs.declared.ends.JobKind.{JobKind}
+use Rattle.hv_job.specs.declared.job.DebugLine.{DebugLine}
 use Rattle.hv_job.specs.declared.job.Job.{Job}
 
 -- a refusal is the one that the text has; memory may be wanting whatever it has
@@ -20,6 +21,11 @@ Refuses Memory text = Unit {0}
 abbrev pub GivesJob : Result Job JobEnd → Answer → Type 0
 GivesJob (Ok job) text = text ≡ Ok job
 GivesJob (Err end) text = Refuses end text
+
+-- the same of the commands behind the directives
+abbrev pub GivesCommands : Result (List DebugLine) JobEnd → Result (List DebugLine) (ℕ × JobKind) → Type 0
+GivesCommands (Ok commands) text = text ≡ Ok commands
+GivesCommands (Err end) text = Refuses end text
 
 -- the same of what a line has
 abbrev pub LineRefuses : {A : Type 0} → LineEnd → Result A JobKind → Type 0

@@ -4,6 +4,9 @@ use Rattle.hv_asm.specs.declared.Image.{Image}
 use Rattle.hv_irq.specs.declared.Event.{Event}
 use Rattle.hv_irq.specs.declared.Event.TheVariants as event
 use Rattle.hv_samples.specs.declared.choice.Sample.TheVariants.{Pass, Forward}
+use Rattle.hv_job.specs.declared.job.DebugCommand.{DebugCommand}
+use Rattle.hv_job.specs.declared.job.DebugCommand.TheVariants as command
+use Rattle.hv_job.specs.declared.job.DebugLine.{DebugLine}
 use Rattle.hv_job.specs.declared.job.Directive.{Directive}
 use Rattle.hv_job.specs.declared.job.Directive.TheVariants as directive
 use Rattle.hv_job.specs.declared.job.Job.{Job}
@@ -88,6 +91,24 @@ event_in _ = None
 abbrev pub event_of : Placed → Option Happening
 event_of placed = event_in placed.what
 
+-- the values of a command of the debugger are in their ranges
+abbrev pub IsCommand : DebugCommand → Type 0
+IsCommand (command.Step count) = (1 ≤ count) × (count ≤ 1000000000)
+IsCommand (command.Break name at) = Unit {0}
+IsCommand (command.Regs name) = Unit {0}
+IsCommand (command.Mem name at) = IsAligned at
+IsCommand (command.Path hart) = hart < 4
+IsCommand (command.Map name page) = IsPage page
+IsCommand command.Faults = Unit {0}
+
+abbrev pub is_break : DebugCommand → Bool
+is_break (command.Break name at) = true
+is_break _ = false
+
+-- how many of these commands are breakpoints
+abbrev pub breaks_in : List DebugLine → ℕ
+breaks_in commands = count_by (λ line. is_break line.what) commands
+
 -- the directives are in their ranges, the events are those of the lines in order, and the limits are kept
 pub record IsJob (job : Job) : Type 0 where
   pub pages : IsSize job.pages
@@ -98,3 +119,6 @@ pub record IsJob (job : Job) : Type 0 where
   pub watches : count_of is_watch job.lines ≤ 16
   pub dumps : count_of is_dump job.lines ≤ 1024
   pub images : image_bytes job.lines ≤ 67108864
+  pub commands : All (λ line. IsCommand line.what) job.commands
+  pub commanded : length job.commands ≤ 1024
+  pub breaks : breaks_in job.commands ≤ 16

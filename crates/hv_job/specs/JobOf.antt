@@ -1,5 +1,5 @@
 -- The job of a text: the first refusal over all of its lines, or what they ask for.
-use Rattle.std.specs.Prelude.{ℕ, ◌+◌, ◌*◌, nat_lt, nat_le, not, Bool, true, false, if◌then◌else◌, List, [], ◌∷◌, ◌++◌, length, codes, find, take_while, unwrap_or, Option, Some, None, Result, Ok, Err}
+use Rattle.std.specs.Prelude.{ℕ, ◌+◌, ◌*◌, ◌&&◌, nat_lt, nat_le, not, Bool, true, false, if◌then◌else◌, List, [], ◌∷◌, ◌++◌, length, codes, find, take_while, unwrap_or, Option, Some, None, Result, Ok, Err}
 use Rattle.hv_asm.specs.Assembly.{asm_of, place_of, words_from}
 use Rattle.hv_asm.specs.declared.AsmKind.{AsmKind}
 use Rattle.hv_asm.specs.declared.AsmKind.TheVariants as asm
@@ -10,14 +10,17 @@ use Rattle.hv_irq.specs.declared.PushEnd.{PushEnd}
 use Rattle.hv_irq.specs.declared.PushEnd.TheVariants as pushed
 use Rattle.hv_lex.specs.Lines.{lines_of}
 use Rattle.hv_samples.specs.Samples.{sample_text}
+use Rattle.hv_samples.specs.declared.choice.Sample.{Sample}
 use Rattle.hv_job.specs.Asked.{asked_of}
-use Rattle.hv_job.specs.IsJob.{count_of, image_bytes, is_dump, is_machine, is_watch}
-use Rattle.hv_job.specs.Lines.{begins_with, is_allowed, is_header, is_only, words_of}
+use Rattle.hv_job.specs.Commands.{commands_from}
+use Rattle.hv_job.specs.IsJob.{bytes_of, count_of, image_bytes, is_dump, is_machine, is_watch}
+use Rattle.hv_job.specs.Lines.{begins_with, has_words, is_allowed, is_header, is_only, words_of}
 use Rattle.hv_job.specs.declared.asked.Asked.{Asked}
 use Rattle.hv_job.specs.declared.asked.Asked.TheVariants as asks
 use Rattle.hv_job.specs.declared.draft.Draft.{Draft}
 use Rattle.hv_job.specs.declared.ends.JobKind.{JobKind}
 use Rattle.hv_job.specs.declared.ends.JobKind.TheVariants as fault
+use Rattle.hv_job.specs.declared.job.DebugLine.{DebugLine}
 use Rattle.hv_job.specs.declared.job.Directive.{Directive}
 use Rattle.hv_job.specs.declared.job.Directive.TheVariants as directive
 use Rattle.hv_job.specs.declared.job.Job.{Job}
@@ -26,10 +29,6 @@ use Rattle.hv_job.specs.declared.job.Placed.{Placed}
 -- a job, or the number of a line and why it is refused
 abbrev pub Answer : Type 0
 Answer = Result Job (ℕ × JobKind)
-
--- a line that isn't skipped
-abbrev pub has_words : List ℕ → Bool
-has_words line = nat_lt 0 (length (words_of line))
 
 -- a line that ends an image
 unfoldable pub is_end : List ℕ → Bool
@@ -147,12 +146,17 @@ abbrev pub words_with : Draft → ℕ → List (List ℕ) → Result Asked JobKi
 words_with draft number behind (Ok asked) = asked_with draft number behind asked
 words_with draft number behind (Err kind) = Err (number, kind)
 
--- the draft with a line behind the one of the storage; behind are the lines behind it
+-- the line that ends the directives
+unfoldable pub is_debug : List ℕ → Bool
+is_debug line = is_only (codes "debug") (words_of line) && is_allowed line
+
+-- the draft with a line of directives; behind are the lines behind it
 unfoldable pub line_with : Draft → ℕ → List ℕ → List (List ℕ) → Result Draft (ℕ × JobKind)
 line_with draft number line behind =
     if not (is_allowed line) then Err (number, fault.Byte)
     else if not (has_words line) then Ok draft
     else if begins_with (codes "storage") (words_of line) then Err (number, fault.Directive)
+    else if begins_with (codes "debug") (words_of line) then Err (number, fault.Words)
     else words_with draft number behind (asked_of (words_of line))
 
 abbrev pub is_image : Result Asked JobKind → Bool
@@ -163,14 +167,19 @@ is_image _ = false
 unfoldable pub begins_image : List ℕ → Bool
 begins_image line = is_image (asked_of (words_of line))
 
-abbrev pub job_in : Draft → Job
-job_in draft = record {
+-- the job of all directives and of the commands behind them
+abbrev pub job_in : Draft → List DebugLine → Job
+job_in draft commands = record {
   pages = draft.pages;
   harts = unwrap_or draft.harts 1;
   lines = draft.lines;
   recording = draft.recording;
-  commands = [];
+  commands = commands;
 }
+
+abbrev pub job_with : Draft → Result (List DebugLine) (ℕ × JobKind) → Answer
+job_with draft (Ok commands) = Ok (job_in draft commands)
+job_with draft (Err refusal) = Err refusal
 
 abbrev pub and_then : Result Draft (ℕ × JobKind) → (Draft → Answer) → Answer
 and_then (Ok draft) next = next draft
@@ -179,10 +188,11 @@ and_then (Err refusal) next = Err refusal
 -- the job of a draft and the lines behind, the first of which has this number; the lines inside an image were read with
 -- the line that began it
 unfoldable pub body_from : Draft → Bool → ℕ → List (List ℕ) → Answer
-body_from draft inside number [] = Ok (job_in draft)
+body_from draft inside number [] = Ok (job_in draft [])
 body_from draft true number (line ∷ lines) = body_from draft (not (is_end line)) (number + 1) lines
 body_from draft false number (line ∷ lines) =
-    and_then (line_with draft number line lines) (λ next. body_from next (begins_image line) (number + 1) lines)
+    if is_debug line then job_with draft (commands_from [] (number + 1) lines)
+    else and_then (line_with draft number line lines) (λ next. body_from next (begins_image line) (number + 1) lines)
 
 -- nothing but a storage
 abbrev pub draft_of : ℕ → Draft

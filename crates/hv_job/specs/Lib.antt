@@ -1,4 +1,5 @@
 pub mod Asked
+pub mod Commands
 pub mod Drafted
 pub mod Inside
 pub mod IsAsked

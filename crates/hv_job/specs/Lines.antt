@@ -1,5 +1,5 @@
 -- A line of a job as its words.
-use Rattle.std.specs.Prelude.{ℕ, Bool, false, not, ◌==◌, ◌&&◌, ◌||◌, if◌then◌else◌, List, [], ◌∷◌, codes}
+use Rattle.std.specs.Prelude.{ℕ, Bool, false, not, ◌==◌, ◌&&◌, ◌||◌, nat_lt, if◌then◌else◌, List, [], ◌∷◌, length, codes}
 use Rattle.std.specs.List.{list_all}
 use Rattle.std.specs.Str.{bytes_eq}
 use Rattle.hv_lex.specs.Lines.{onto}
@@ -30,6 +30,10 @@ words_of (c ∷ cs) =
     else if c == 35 then []
     else if begins_word cs then onto c (words_of cs)
     else (c ∷ []) ∷ words_of cs
+
+-- a line that isn't skipped
+abbrev pub has_words : List ℕ → Bool
+has_words line = nat_lt 0 (length (words_of line))
 
 -- the words are exactly `job` and `1`
 unfoldable pub is_header : List (List ℕ) → Bool

@@ -2,17 +2,19 @@
 
 ghost use Rattle.std.specs.Prelude.{◌≡◌, ◌+◌, ◌<◌, ◌≤◌, ◌^◌, false, length, IfOk};
 ghost use Rattle.hv_lex.specs.Lines.{lines_of};
-ghost use Rattle.hv_job.specs.Drafted.{GivesDraft, LeadsTo};
+ghost use Rattle.hv_job.specs.Drafted.{GivesDraft, GivesJob, LeadsTo};
 ghost use Rattle.hv_job.specs.IsAsked.{IsAsked};
-ghost use Rattle.hv_job.specs.JobOf.{asked_with, begins_image, body_from, draft_of, header_from, is_image, job_in, line_with, storage_from, storage_pages as storage_pages_of};
+ghost use Rattle.hv_job.specs.JobOf.{asked_with, begins_image, body_from, draft_of, header_from, is_debug as is_debug_of, is_image, line_with, storage_from, storage_pages as storage_pages_of};
 ghost use Rattle.hv_job.specs.Lines.{words_of};
 
 use crate::asked::Asked;
+use crate::commands::read_commands;
 use crate::directives::read_asked;
 use crate::draft::Draft;
 use crate::ends::{JobEnd, JobKind};
 use crate::images::{Spot, at_line, read_image};
-use crate::lines::{begins_with, has_allowed_bytes, has_words, is_header};
+use crate::job::{Items, Job};
+use crate::lines::{begins_with, has_allowed_bytes, has_words, is_header, is_only};
 use hv_lex::first_line;
 use std::alloc::Global;
 
@@ -75,21 +77,33 @@ pub(crate) fn read_storage(text: &[u8], first: u32) -> Result<(u32, Spot<'_>), J
     refused(number, JobKind::Storage)
 }
 
-/// What all lines behind that of the storage ask for.
-pub(crate) fn read_body(alloc: Global, pages: u32, text: &[u8], first: u32) -> Result<Draft, JobEnd>
+/// The job of a storage and of all lines behind it.
+pub(crate) fn read_body(alloc: Global, pages: u32, text: &[u8], first: u32) -> Result<Job, JobEnd>
     requires { first + length text.now < 2 ^ 32 }
-    ensures { LeadsTo result (body_from (draft_of pages) false first (lines_of text.now)) (λ draft. Ok (job_in draft)) }
+    ensures { GivesJob result (body_from (draft_of pages) false first (lines_of text.now)) }
 {
     let mut draft = Draft::new(alloc, pages);
     let mut rest = text;
     let mut number = first;
     while !rest.is_empty() {
         let (line, behind) = first_line(rest);
+        if is_debug(line) {
+            let commands = read_commands(alloc, behind, number + 1)?;
+            return Ok(draft.into_job(commands));
+        }
         let spot = read_line(alloc, &mut draft, number, line, behind)?;
         number = spot.number;
         rest = spot.text;
     }
-    Ok(draft)
+    Ok(draft.into_job(Items::new(Vec::new(alloc))))
+}
+
+// Whether a line ends the directives.
+#[tactic(auto, unfolding(crate::specs::JobOf::is_debug))]
+fn is_debug(line: &[u8]) -> bool
+    ensures { result ≡ is_debug_of line.now }
+{
+    is_only(b"debug", line) && has_allowed_bytes(line)
 }
 
 // Reads a line, and the lines of its image if it begins one.
@@ -119,6 +133,9 @@ fn read_line<'a>(
     }
     if begins_with(b"storage", line) {
         return refused(number, JobKind::Directive);
+    }
+    if begins_with(b"debug", line) {
+        return refused(number, JobKind::Words);
     }
     match read_asked(line) {
         Ok(asked) => do_asked(alloc, draft, number, asked, behind),

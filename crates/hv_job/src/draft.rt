@@ -10,7 +10,7 @@ ghost use Rattle.hv_job.specs.JobOf.{added, draft_of, happened as happened_of, h
 
 use crate::asked::Asked;
 use crate::ends::JobKind;
-use crate::job::{Directive, Items, Job, Placed};
+use crate::job::{DebugLine, Directive, Items, Job, Placed};
 use crate::name::Name;
 use hv_asm::{AsmEnd, assemble};
 use hv_irq::{Event, PushEnd, Recording};
@@ -203,16 +203,16 @@ impl Draft {
         }
     }
 
-    /// The job of all lines.
-    pub fn into_job(self, alloc: Global) -> Job
-        ensures { result ≡ job_in self }
+    /// The job of all directives, and of the commands behind them.
+    pub fn into_job(self, commands: Items<DebugLine>) -> Job
+        ensures { result ≡ job_in self commands }
     {
         Job {
             pages: self.pages,
             harts: self.harts.unwrap_or(1),
             lines: self.lines.into_items(),
             recording: self.recording,
-            commands: Items::new(Vec::new(alloc)),
+            commands,
         }
     }
 

@@ -13,7 +13,7 @@ pub enum JobKind {
     Header,
     /// The second such line isn't one of the storage.
     Storage,
-    /// No directive has this name.
+    /// No directive, or no command, has this name.
     Directive,
     /// The words are too few or too many, or one that is fixed is another.
     Words,

@@ -1,4 +1,4 @@
-//! The text of a job: the directives that it has, or the first line that is refused.
+//! The text of a job: the directives and the commands of the debugger that it has, or the first line that is refused.
 #![tactic(auto)]
 
 ghost use Rattle.std.specs.Prelude.{◌+◌, ◌<◌, ◌^◌, length, IfOk};
@@ -8,6 +8,7 @@ ghost use Rattle.hv_job.specs.JobOf.{job_of};
 
 mod asked;
 mod body;
+mod commands;
 mod directives;
 mod draft;
 mod ends;
@@ -33,8 +34,7 @@ pub fn parse_job(alloc: Global, bytes: &[u8]) -> Result<Job, JobEnd>
 {
     let header = read_header(bytes)?;
     let (pages, storage) = read_storage(header.text, header.number)?;
-    let draft = read_body(alloc, pages, storage.text, storage.number)?;
-    Ok(draft.into_job(alloc))
+    read_body(alloc, pages, storage.text, storage.number)
 }
 
 #[cfg(test)]

@@ -25,7 +25,16 @@ fn each_kind_stands_at_its_line(rt: HostRuntime) -> Result<(), Fail> {
         ("turn 0 5 # \x07", 3, JobKind::Byte),
         ("# a comment\nload 5", 4, JobKind::Directive),
         ("storage 8", 3, JobKind::Directive),
-        ("debug", 3, JobKind::Directive),
+        ("debug x", 3, JobKind::Words),
+        ("debug # \x07\nfoo", 3, JobKind::Byte),
+        ("debug\nfoo", 4, JobKind::Directive),
+        ("debug\ndebug", 4, JobKind::Directive),
+        ("debug\n\nstep 0", 5, JobKind::Range),
+        ("debug\nmem kid 2", 4, JobKind::Range),
+        ("debug\nfaults 1", 4, JobKind::Words),
+        ("debug\nregs 1", 4, JobKind::Name),
+        ("debug\n# \x07", 4, JobKind::Byte),
+        ("image root 0\ndebug\nend", 4, JobKind::Mnemonic),
         ("hart 0", 3, JobKind::Words),
         ("map kid 0 foo 5", 3, JobKind::Words),
         ("map 9bad 0 none 5", 3, JobKind::Name),
@@ -75,6 +84,35 @@ fn limits_on_lines(rt: HostRuntime) -> Result<(), Fail> {
     assert_eq!(rt; fault(rt.alloc(), text.as_str()), None);
     text.push_str("watch 0 root\n")?;
     assert_eq!(rt; fault(rt.alloc(), text.as_str()), Some((19, JobKind::Many)));
+    Ok(())
+}
+
+#[test]
+fn the_seventeenth_breakpoint_is_refused(rt: HostRuntime) -> Result<(), Fail> {
+    let mut text = String::from_str(rt.alloc(), "job 1\nstorage 1\ndebug\n")?;
+    for _ in 0..16 {
+        text.push_str("break root 3\n")?;
+    }
+    assert_eq!(rt; fault(rt.alloc(), text.as_str()), None);
+    text.push_str("break root 3\n")?;
+    assert_eq!(rt; fault(rt.alloc(), text.as_str()), Some((20, JobKind::Many)));
+    Ok(())
+}
+
+#[test]
+fn commands_stand_behind_the_directives(rt: HostRuntime) -> Result<(), Fail> {
+    let text =
+        b"job 1\nstorage 1\nword root 0 0x00500093\nturn 0 1\nwatch 0 root\ndebug # now\nstep\t1 # one\n\nregs root\n";
+    let job = parse_job(rt.alloc(), text)?;
+    assert_eq!(rt; job.lines.as_slice().len(), 3);
+    let [step, regs] = job.commands.as_slice() else {
+        return Err("not two commands".into());
+    };
+    assert_eq!(rt; (step.line, regs.line), (7, 9));
+    assert_eq!(rt; step.words.as_slice(), b"step 1".as_slice());
+    assert_eq!(rt; regs.words.as_slice(), b"regs root".as_slice());
+    assert!(rt; matches!(&step.what, DebugCommand::Step { count: 1 }));
+    assert!(rt; matches!(&regs.what, DebugCommand::Regs { name } if name.is(b"root")));
     Ok(())
 }
 

@@ -5,4 +5,4 @@ use Rattle.hv_job.proofs.parse_job.Goals as goal
 
 pub returns-clause-limits : goal.returns-clause-limits
 unfolding job_of
-returns-clause-limits c = job_is c.args.bytes.now c.into_job.result (search rules)
+returns-clause-limits c = job_is c.args.bytes.now c.read_body.result (search rules)

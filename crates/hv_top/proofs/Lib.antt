@@ -1,6 +1,4 @@
-pub mod Cutting
-pub mod NumberLists
-pub mod Numerals
-pub mod Parts
-pub mod Starts
-pub mod Reports
+pub mod Lines
+pub mod Events
+pub mod Played
+pub mod Started

@@ -1,6 +1,6 @@
-pub mod Cuts
-pub mod Job
-pub mod Numbers
 pub mod Output
-pub mod Report
 pub mod Answer
+pub mod Asm
+pub mod Dis
+pub mod Run
+pub mod Commands

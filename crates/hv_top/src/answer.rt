@@ -1,71 +1,60 @@
 //! What an input is answered.
 
-ghost use Rattle.std.specs.Prelude.{◌≡◌, ◌<◌, All, IfOk};
-ghost use Rattle.hv_irq.specs.Events.{hart_of};
-ghost use Rattle.hv_run.specs.Stands.{watches_of};
+ghost use Rattle.std.specs.Prelude.{◌≡◌, ◌≤◌, length, IfOk, OnOk};
+ghost use Rattle.hv_io.specs.declared.TheConstants.{INPUT_LIMIT};
 ghost use Rattle.hv_top.specs.Answer.{output_in};
-ghost use Rattle.hv_top.specs.Output.{output_of, report_on, watching};
+ghost use Rattle.hv_top.specs.Commands.{IsPromised, output_of};
+ghost use Rattle.hv_top.specs.Output.{Text, refusal};
 
-use crate::job::Job;
-use crate::parse::parse;
-use crate::report::report;
-use hv_map::{Path, Watch};
-use hv_nest::{Harts, Plain};
-use hv_run::play;
+use crate::asm::assembled;
+use crate::dis::disassembled;
+use crate::running::reported;
+use hv_report::{put, put_number};
+use hv_words::Command;
 use std::alloc::{AllocError, Global};
 
-/// A text to be written: the report on an input, or the line that refuses it.
+/// A text to be written: that of a command, or the line that refuses its input.
 #[derive(Drop)]
 pub struct Answer {
     pub text: Vec<u8>,
     pub refused: bool,
 }
 
-/// What this input is answered.
-#[tactic(auto, unfolding(crate::specs::Output::output_of))]
-pub fn answer_to(alloc: Global, input: &[u8]) -> Result<Answer, AllocError>
-    ensures { IfOk result (λ answer. output_in answer ≡ output_of input.now) }
+/// What this input is answered under a command.
+#[tactic(auto, unfolding(crate::specs::Commands::output_of, crate::specs::Commands::IsPromised))]
+pub fn answer_to(alloc: Global, command: Command, input: &[u8]) -> Result<Answer, AllocError>
+    requires { length input.now ≤ INPUT_LIMIT }
+    ensures output { IfOk result (λ answer. output_in answer ≡ output_of command input.now) }
+    ensures promised { OnOk result (IsPromised command input.now) }
 {
-    let Some(job) = parse(alloc, input)? else {
-        let text = Vec::from_slice(alloc, b"refused line 0: form\n".as_slice())?;
-        return Ok(Answer {
-            text,
-            refused: true,
-        });
-    };
-    let text = told(alloc, job)?;
-    Ok(Answer {
+    match command {
+        Command::Run { plain: _ } => reported(alloc, input),
+        Command::Asm => assembled(alloc, input),
+        Command::Dis => disassembled(alloc, input),
+    }
+}
+
+/// The text of a command.
+pub fn written(text: Vec<u8>) -> Answer
+    ensures { output_in result ≡ Text text.items }
+{
+    Answer {
         text,
         refused: false,
-    })
-}
-
-// Plays the job on one hart, which all of its events name, and tells what happened.
-fn told(alloc: Global, job: Job) -> Result<Vec<u8>, AllocError>
-    requires { All (λ event. hart_of event < 1) job.recording }
-    ensures { IfOk result (λ text. text.items ≡ report_on job) }
-{
-    let Job {
-        store,
-        recording,
-        watched,
-    } = job;
-    let watches = watches(alloc, watched)?;
-    let mut plain = Plain::new(store, Harts::new(1));
-    let played = play(alloc, &mut plain, recording.events(), &watches)?;
-    report(alloc, &mut plain, &played)
-}
-
-// The watch of the bare machine, where it is watched.
-fn watches(alloc: Global, watched: bool) -> Result<Vec<Watch>, AllocError>
-    ensures { IfOk result (λ watches. watches_of watches.items ≡ watching watched) }
-{
-    let mut watches = Vec::new(alloc);
-    if watched {
-        watches.push(Watch {
-            hart: 0,
-            path: Path::new(),
-        })?;
     }
-    Ok(watches)
+}
+
+/// The refusal of the line of this number.
+pub fn refused(alloc: Global, line: u32, kind: &[u8]) -> Result<Answer, AllocError>
+    ensures { IfOk result (λ answer. output_in answer ≡ refusal line kind.now) }
+{
+    let mut text = Vec::new(alloc);
+    put_number(alloc, &mut text, b"refused line ", u64::from(line))?;
+    put(&mut text, b": ")?;
+    put(&mut text, kind)?;
+    put(&mut text, b"\n")?;
+    Ok(Answer {
+        text,
+        refused: true,
+    })
 }

@@ -1,79 +1,13 @@
-//! Inputs with their reports, and what comes of faults outside, of other words and of a long input.
+//! Inputs with what is written for them, and what comes of faults outside, of other words and of a long input.
 
 ghost use Rattle.std.specs.Prelude.{◌<◌};
 
 use super::*;
+use crate::refusals::REFUSALS;
+use crate::rows::{JOBS, KERNELS};
 use hv_io::{INPUT_LIMIT, MemSource};
 use std::alloc::AllocError;
 use std::test::Fail;
-
-/// The smallest job: one step, which adds 5 to x1.
-const SMALLEST: &str = "job 1
-storage 1
-word root 0 0x00500093
-turn 0 1
-watch 0 root
-";
-
-const SMALLEST_REPORT: &str = "ran 1 faults 0 recalls 0
-hart 0 -
-watch 0 - one=yes apart=yes touched=no
-count 1
-pc 00000004 mode 3 next 0
-x0 00000000 00000005 00000000 00000000 00000000 00000000 00000000 00000000
-x8 00000000 00000000 00000000 00000000 00000000 00000000 00000000 00000000
-x16 00000000 00000000 00000000 00000000 00000000 00000000 00000000 00000000
-x24 00000000 00000000 00000000 00000000 00000000 00000000 00000000 00000000
-m 00000000 00000000 00000000 00000000 00000000 00000000 00000000 00000000 00000000 00000000
-s 00000000 00000000 00000000 00000000 00000000 00000000
-";
-
-/// A machine that enters a child, which adds 5 to its x1.
-const CHILD: &str = "job 1
-storage 4
-word root 0 0x000012B7 0x00028293 0x0002800B 0xFFDFF06F
-word root 0x1080 3
-word root 0x1104 1 2
-word root 0x2000 0x00003003
-word root 0x3000 0x00500093
-turn 0 4
-watch 0 root
-";
-
-const CHILD_REPORT: &str = "ran 4 faults 0 recalls 0
-hart 0 1
-watch 0 - one=yes apart=yes touched=no
-count 4
-pc 0000000c mode 3 next 1
-x0 00000000 00000000 00000000 00000000 00000000 00001000 00000000 00000000
-x8 00000000 00000000 00000000 00000000 00000000 00000000 00000000 00000000
-x16 00000000 00000000 00000000 00000000 00000000 00000000 00000000 00000000
-x24 00000000 00000000 00000000 00000000 00000000 00000000 00000000 00000000
-m 00000000 00000000 00000000 00000000 00000000 00000000 00000000 00000000 00000000 00000000
-s 00000000 00000000 00000000 00000000 00000000 00000000
-";
-
-/// The machine's child sees the page of its own control block as its page 1, and runs itself as its child, and so on.
-/// The fault is for the machine at level 2, whose next becomes 0. But it lies in the block of the machine at level 1 too,
-/// and the registers of this machine are put back last, with their next, so that the same fault comes again.
-const SELF: &str = "job 1
-storage 8
-word root 0 0x000012B7 0x00028293 0x0002800B 0xFFDFF06F
-word root 0x1080 3
-word root 0x1100 1 4 2
-word root 0x2000 0x00004003 0x00001003 0x00005003 0x00006003
-word root 0x5000 3 0x00001003 0x00003003 0x00003003
-turn 0 6
-";
-
-const SELF_REPORT: &str = "ran 6 faults 3 recalls 0
-hart 0 1.1.1
-fault 4 hart 0 level 2 cause 1 address 00001000 access 2
-fault 5 hart 0 level 2 cause 1 address 00001000 access 2
-fault 6 hart 0 level 2 cause 1 address 00001000 access 2
-";
-
-const REFUSAL: &str = "refused line 0: form\n";
 
 /// The words of a command line.
 fn words_of(alloc: Global, line: &str) -> Result<Vec<String>, AllocError> {
@@ -101,155 +35,60 @@ fn source_of(
 fn sink_of(alloc: Global, chunk: usize, fails: &[u32]) -> Result<MemSink, AllocError>
     requires { 0 < chunk }
 {
-    MemSink::new(alloc, 4096, chunk, Vec::from_slice(alloc, fails)?)
+    MemSink::new(alloc, 16384, chunk, Vec::from_slice(alloc, fails)?)
+}
+
+/// Whether a command ends so for an input, and writes this.
+fn ends(
+    alloc: Global,
+    line: &str,
+    input: &str,
+    status: u8,
+    text: &str,
+) -> Result<bool, AllocError> {
+    let words = words_of(alloc, line)?;
+    let mut source = source_of(alloc, input, 4096, &[])?;
+    let mut sink = sink_of(alloc, 4096, &[])?;
+    let answer = virtualize(alloc, &words, &mut source, &mut sink);
+    Ok(answer == status && sink.held() == text.as_bytes())
 }
 
 #[test]
-fn jobs_are_run_and_reported_and_other_texts_refused(rt: HostRuntime) -> Result<(), Fail> {
-    let rows = [
-        (SMALLEST, 0, SMALLEST_REPORT),
-        (CHILD, 0, CHILD_REPORT),
-        (SELF, 0, SELF_REPORT),
-        (
-            "job 1\nstorage 16384",
-            0,
-            "ran 0 faults 0 recalls 0\nhart 0 -\n",
-        ),
-        (
-            "job 1\nstorage 1\nturn 0 5\nlines 0 0\nturn 0 2",
-            0,
-            "ran 7 faults 0 recalls 0\nhart 0 -\n",
-        ),
-        (
-            "job 1\nstorage 1\nword root 0xFFC 1\n",
-            0,
-            "ran 0 faults 0 recalls 0\nhart 0 -\n",
-        ),
-        ("", 3, REFUSAL),
-        ("job 1", 3, REFUSAL),
-        ("job 01\nstorage 1", 3, REFUSAL),
-        ("job 1\nstorage 0", 3, REFUSAL),
-        ("job 1\nstorage 16385", 3, REFUSAL),
-        ("job 1\nstorage 1\n\n", 3, REFUSAL),
-        ("job 1\nstorage  1", 3, REFUSAL),
-        ("job 1\nstorage 1 ", 3, REFUSAL),
-        ("job 1\nstorage 1\r\n", 3, REFUSAL),
-        ("job 1\nstorage 1\nword root 2 1", 3, REFUSAL),
-        ("job 1\nstorage 1\nword root 0", 3, REFUSAL),
-        (
-            "job 1\nstorage 1\nword root 0 1 2 3 4 5 6 7 8 9",
-            3,
-            REFUSAL,
-        ),
-        ("job 1\nstorage 1\nword root 0xFFC 1 2", 3, REFUSAL),
-        ("job 1\nstorage 1\nword root 0 4294967296", 3, REFUSAL),
-        ("job 1\nstorage 1\nword root 0 0x", 3, REFUSAL),
-        ("job 1\nstorage 1\nturn 0 0", 3, REFUSAL),
-        ("job 1\nstorage 1\nturn 0 1000000000\nturn 0 1", 3, REFUSAL),
-        ("job 1\nstorage 1\nlines 0 0x80\nword root 0 1", 3, REFUSAL),
-        ("job 1\nstorage 1\nlines 0 0x81", 3, REFUSAL),
-        ("job 1\nstorage 1\nwatch 0 root\nturn 0 1", 3, REFUSAL),
-    ];
-    let words = words_of(rt.alloc(), "run")?;
-    for (input, status, text) in rows {
-        let mut source = source_of(rt.alloc(), input, 1, &[])?;
-        let mut sink = sink_of(rt.alloc(), 1, &[])?;
-        let answer = virtualize(rt.alloc(), &words, &mut source, &mut sink);
-        assert_eq!(rt; answer, status, "at {input:?}");
-        assert!(rt; sink.held() == text.as_bytes(), "at {input:?}");
+fn jobs_are_played_and_reported(rt: HostRuntime) -> Result<(), Fail> {
+    for row in &JOBS {
+        let done = ends(rt.alloc(), "run", row.input, DONE, row.text)?;
+        let shows = row.shows;
+        assert!(rt; done, "at {shows}");
     }
     Ok(())
 }
 
-/// A job of one page with these lines, which runs so many steps, and where its machine is then: pc, the lines of x0 and
-/// of the control registers of M, and the changes of its lines.
-struct Row {
-    lines: &'static str,
-    steps: u32,
-    pc: &'static str,
-    file: &'static str,
-    control: &'static str,
-    changes: &'static str,
+#[test]
+fn the_plain_engine_writes_the_same(rt: HostRuntime) -> Result<(), Fail> {
+    for row in [&JOBS[0], &JOBS[9], &JOBS[21], &JOBS[22]] {
+        let done = ends(rt.alloc(), "run --plain", row.input, DONE, row.text)?;
+        let shows = row.shows;
+        assert!(rt; done, "at {shows}");
+    }
+    Ok(())
 }
 
-const ROWS: [Row; 5] = [
-    // Zero steps.
-    Row {
-        lines: "word root 0 0x00500093",
-        steps: 0,
-        pc: "00000000",
-        file: "x0 00000000 00000000 00000000 00000000 00000000 00000000 00000000 00000000",
-        control: "m 00000000 00000000 00000000 00000000 00000000 00000000 00000000 00000000 00000000 00000000",
-        changes: "",
-    },
-    // A misaligned jump: x1 isn't written.
-    Row {
-        lines: "word root 0 0x006000EF\nturn 0 1",
-        steps: 1,
-        pc: "00000000",
-        file: "x0 00000000 00000000 00000000 00000000 00000000 00000000 00000000 00000000",
-        control: "m 00001800 00000000 00000000 00000000 00000006 00000000 00000000 00000000 00000000 00000000",
-        changes: "",
-    },
-    // A store behind the end of the storage.
-    Row {
-        lines: "word root 0 0x00001137 0x00900193 0xFE312E23 0x00312023\nturn 0 4",
-        steps: 4,
-        pc: "00000000",
-        file: "x0 00000000 00000000 00001000 00000009 00000000 00000000 00000000 00000000",
-        control: "m 00001800 00000000 0000000c 00000007 00001000 00000000 00000000 00000000 00000000 00000000",
-        changes: "",
-    },
-    // Bytes and halves.
-    Row {
-        lines: "word root 0 0xFFF00093 0x04100123 0x04205103 0x04200183\nturn 0 4",
-        steps: 4,
-        pc: "00000010",
-        file: "x0 00000000 ffffffff 000000ff ffffffff 00000000 00000000 00000000 00000000",
-        control: "m 00000000 00000000 00000000 00000000 00000000 00000000 00000000 00000000 00000000 00000000",
-        changes: "",
-    },
-    // A timer interrupt, which is a step of its own.
-    Row {
-        lines: "word root 0 0x02000313 0x30531073 0x08000313 0x30431073 0x30046073 0x0000006F\nword root 0x20 0x0000006F\nturn 0 7\nlines 0 0x80\nturn 0 3",
-        steps: 10,
-        pc: "00000020",
-        file: "x0 00000000 00000000 00000000 00000000 00000000 00000000 00000080 00000000",
-        control: "m 00001880 00000020 00000014 80000007 00000000 00000000 00000000 00000000 00000080 00000080",
-        changes: "line 7 00000080\n",
-    },
-];
+#[test]
+fn two_harts_share_four_kernels(rt: HostRuntime) -> Result<(), Fail> {
+    let done = ends(rt.alloc(), "run", KERNELS.input, DONE, KERNELS.text)?;
+    assert!(rt; done);
+    Ok(())
+}
 
 #[test]
-fn machines_are_where_the_manual_leads(rt: HostRuntime) -> Result<(), Fail> {
-    let words = words_of(rt.alloc(), "run")?;
-    for row in &ROWS {
-        let lines = row.lines;
-        let input = format!(in rt.alloc(); "job 1\nstorage 1\n{lines}\nwatch 0 root\n")?;
-        let steps = row.steps;
-        let head = format!(in rt.alloc();
-            "ran {steps} faults 0 recalls 0\nhart 0 -\nwatch 0 - one=yes apart=yes touched=no\ncount {steps}\n"
-        )?;
-        let pc = row.pc;
-        let file = row.file;
-        let zeros = "00000000 00000000 00000000 00000000 00000000 00000000 00000000 00000000";
-        let registers = format!(in rt.alloc();
-            "pc {pc} mode 3 next 0\n{file}\nx8 {zeros}\nx16 {zeros}\nx24 {zeros}\n"
-        )?;
-        let control = row.control;
-        let changes = row.changes;
-        let tail = format!(in rt.alloc();
-            "{control}\ns 00000000 00000000 00000000 00000000 00000000 00000000\n{changes}"
-        )?;
-        let text = format!(in rt.alloc(); "{head}{registers}{tail}")?;
-        let mut source = source_of(rt.alloc(), &input, 4096, &[])?;
-        let mut sink = sink_of(rt.alloc(), 4096, &[])?;
-        assert_eq!(rt;
-            virtualize(rt.alloc(), &words, &mut source, &mut sink),
-            0,
-            "at {lines}"
-        );
-        assert!(rt; sink.held() == text.as_bytes(), "at {lines}");
+fn other_texts_are_refused_at_their_line(rt: HostRuntime) -> Result<(), Fail> {
+    for row in &REFUSALS {
+        let line = row.line;
+        let kind = row.kind;
+        let text = format!(in rt.alloc(); "refused line {line}: {kind}\n")?;
+        let refused = ends(rt.alloc(), "run", row.input, REFUSED, &text)?;
+        let input = row.input;
+        assert!(rt; refused, "at {input:?}");
     }
     Ok(())
 }
@@ -257,11 +96,11 @@ fn machines_are_where_the_manual_leads(rt: HostRuntime) -> Result<(), Fail> {
 #[test]
 fn faults_outside_end_with_their_own_status(rt: HostRuntime) -> Result<(), Fail> {
     let words = words_of(rt.alloc(), "run")?;
-    let mut source = source_of(rt.alloc(), SMALLEST, 16, &[1])?;
+    let mut source = source_of(rt.alloc(), JOBS[0].input, 16, &[1])?;
     let mut sink = sink_of(rt.alloc(), 7, &[])?;
     assert_eq!(rt; virtualize(rt.alloc(), &words, &mut source, &mut sink), 5);
     assert_eq!(rt; sink.held().len(), 0);
-    let mut source = source_of(rt.alloc(), SMALLEST, 16, &[])?;
+    let mut source = source_of(rt.alloc(), JOBS[0].input, 16, &[])?;
     let mut sink = sink_of(rt.alloc(), 7, &[1])?;
     assert_eq!(rt; virtualize(rt.alloc(), &words, &mut source, &mut sink), 6);
     assert!(rt; sink.held() == b"ran 1 f".as_slice());
@@ -270,14 +109,14 @@ fn faults_outside_end_with_their_own_status(rt: HostRuntime) -> Result<(), Fail>
 
 #[test]
 fn other_words_read_and_write_nothing(rt: HostRuntime) -> Result<(), Fail> {
-    for line in ["", "run now", "run --plain", "Run"] {
+    for line in ["", "run now", "gen 07", "run --plain --plain", "Run"] {
         let words = words_of(rt.alloc(), line)?;
-        let mut source = source_of(rt.alloc(), SMALLEST, 4096, &[])?;
+        let mut source = source_of(rt.alloc(), JOBS[0].input, 4096, &[])?;
         let mut sink = sink_of(rt.alloc(), 4096, &[])?;
         assert_eq!(rt; virtualize(rt.alloc(), &words, &mut source, &mut sink), 2);
         assert_eq!(rt; sink.held().len(), 0);
         let left = read_all(rt.alloc(), &mut source).ok().ok_or("no bytes")?;
-        assert!(rt; left.as_slice() == SMALLEST.as_bytes());
+        assert!(rt; left.as_slice() == JOBS[0].input.as_bytes());
     }
     Ok(())
 }
@@ -301,11 +140,61 @@ fn an_input_past_the_limit_is_too_long(rt: HostRuntime) -> Result<(), Fail> {
         );
         assert_eq!(rt; answer, status);
         let text = if status == 3 {
-            REFUSAL.as_bytes()
+            b"refused line 1048577: header\n".as_slice()
         } else {
             b"".as_slice()
         };
         assert!(rt; sink.held() == text);
+    }
+    Ok(())
+}
+
+/// The text of the sample that enters its child for ever, its words, and these as instructions.
+const PASS: &str = "start:  li x5, 0x1000\nagain:  vmenter x5\n        j again\n";
+
+const PASS_WORDS: &str = "000012b7\n00028293\n0002800b\nffdff06f\n";
+
+const PASS_BACK: &str = "lui x5, 0x1\naddi x5, x5, 0\nvmenter x5\njal x0, -4\n";
+
+#[test]
+fn texts_are_assembled_and_words_disassembled(rt: HostRuntime) -> Result<(), Fail> {
+    let rows = [
+        ("asm", PASS, 0, PASS_WORDS),
+        ("dis", PASS_WORDS, 0, PASS_BACK),
+        ("asm", "", 0, ""),
+        ("asm", "\t# nothing\r\n\nnop", 0, "00000013\n"),
+        ("asm", "beq x1, x2, gone", 3, "refused line 1: label\n"),
+        ("asm", "nop\nnop ;", 3, "refused line 2: byte\n"),
+        ("asm", "li x1, 0X10", 3, "refused line 1: syntax\n"),
+        ("asm", "a:\n\na: nop", 3, "refused line 3: repeat\n"),
+        ("asm", "ADD x1, x1, x1", 3, "refused line 1: mnemonic\n"),
+        ("asm", "nop x1\nADD", 3, "refused line 1: operand\n"),
+        ("asm", "addi x1, x1, 2048", 3, "refused line 1: range\n"),
+        ("dis", "", 0, ""),
+        (
+            "dis",
+            "FfDfF06f\r\n00000000",
+            0,
+            "jal x0, -4\n.word 0x00000000\n",
+        ),
+        (
+            "dis",
+            "00000013\n\n00000013\n",
+            3,
+            "refused line 2: number\n",
+        ),
+        ("dis", "0000013", 3, "refused line 1: number\n"),
+        ("dis", "000000013", 3, "refused line 1: number\n"),
+        (
+            "dis",
+            "00000013\n0000001g\n?",
+            3,
+            "refused line 2: number\n",
+        ),
+    ];
+    for (line, input, status, text) in rows {
+        let done = ends(rt.alloc(), line, input, status, text)?;
+        assert!(rt; done, "at {input:?}");
     }
     Ok(())
 }

@@ -1,6 +1,0 @@
-use Rattle.std.proofs.Common.{◌≡◌, ◌++◌, take}
-use Rattle.hv_top.specs.Report.{syllables_text}
-use Rattle.hv_top.proofs.report.put_syllables.Given as goal
-
-abbrev pub invariant-loop-syllable : goal.invariant-loop-syllable
-invariant-loop-syllable l = l.out.items ≡ l.fn.out.items ++ syllables_text (take l.syllable-index l.path)

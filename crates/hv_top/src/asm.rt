@@ -1,0 +1,55 @@
+//! The command `asm`.
+
+ghost use Rattle.std.specs.Prelude.{◌≡◌, ◌≤◌, ◌++◌, length, IfOk, OnOk};
+ghost use Rattle.hv_io.specs.declared.TheConstants.{INPUT_LIMIT};
+ghost use Rattle.hv_top.specs.Answer.{output_in};
+ghost use Rattle.hv_top.specs.Asm.{asm_kind_text, asm_output, word_lines};
+
+use crate::answer::{Answer, refused, written};
+use hv_asm::{AsmEnd, AsmKind, assemble};
+use hv_report::{put, put_hex8};
+use std::alloc::{AllocError, Global};
+
+/// The words of an assembly text whose first address is 0, each as eight hexadecimal digits on a line of its own, or the
+/// refusal of the least line that is refused.
+pub fn assembled(alloc: Global, input: &[u8]) -> Result<Answer, AllocError>
+    requires { length input.now ≤ INPUT_LIMIT }
+    ensures { IfOk result (λ answer. output_in answer ≡ asm_output input.now) }
+{
+    match assemble(alloc, input, 0) {
+        Ok(image) => {
+            let mut text = Vec::new(alloc);
+            put_words(&mut text, image.words.as_slice())?;
+            Ok(written(text))
+        }
+        Err(AsmEnd::AsmFault { line, kind }) => refused(alloc, line, kind_text(kind)),
+        Err(AsmEnd::Memory) => Err(AllocError),
+    }
+}
+
+// Appends each word on a line of its own.
+#[tactic(auto, unfolding(crate::specs::Asm::word_lines))]
+fn put_words(out: &mut Vec<u8>, words: &[u32]) -> Result<(), AllocError>
+    ensures { OnOk result (out.new.items ≡ out.old.items ++ word_lines words.now) }
+{
+    for word in words {
+        put_hex8(out, *word)?;
+        put(out, b"\n")?;
+    }
+    Ok(())
+}
+
+// Why a line of assembly is refused.
+fn kind_text(kind: AsmKind) -> &'static [u8]
+    ensures { result.now ≡ asm_kind_text kind }
+{
+    match kind {
+        AsmKind::Byte => b"byte",
+        AsmKind::Syntax => b"syntax",
+        AsmKind::Repeat => b"repeat",
+        AsmKind::Mnemonic => b"mnemonic",
+        AsmKind::Operand => b"operand",
+        AsmKind::Label => b"label",
+        AsmKind::Range => b"range",
+    }
+}

@@ -1,0 +1,644 @@
+//! Jobs with their reports.
+
+/// An input, and what is written for it.
+pub struct Row {
+    pub shows: &'static str,
+    pub input: &'static str,
+    pub text: &'static str,
+}
+
+/// Jobs with their reports.
+pub static JOBS: [Row; 25] = [
+    Row {
+        shows: "the smallest job",
+        input: "job 1
+storage 1
+word root 0 0x00500093
+turn 0 1
+watch 0 root
+",
+        text: "ran 1 faults 0 recalls 0
+hart 0 -
+watch 0 - one=yes apart=yes touched=no
+count 1
+pc 00000004 mode 3 next 0
+x0 00000000 00000005 00000000 00000000 00000000 00000000 00000000 00000000
+x8 00000000 00000000 00000000 00000000 00000000 00000000 00000000 00000000
+x16 00000000 00000000 00000000 00000000 00000000 00000000 00000000 00000000
+x24 00000000 00000000 00000000 00000000 00000000 00000000 00000000 00000000
+m 00000000 00000000 00000000 00000000 00000000 00000000 00000000 00000000 00000000 00000000
+s 00000000 00000000 00000000 00000000 00000000 00000000
+",
+    },
+    Row {
+        shows: "no steps",
+        input: "job 1
+storage 1
+word root 0 0x00500093
+watch 0 root
+",
+        text: "ran 0 faults 0 recalls 0
+hart 0 -
+watch 0 - one=yes apart=yes touched=no
+count 0
+pc 00000000 mode 3 next 0
+x0 00000000 00000000 00000000 00000000 00000000 00000000 00000000 00000000
+x8 00000000 00000000 00000000 00000000 00000000 00000000 00000000 00000000
+x16 00000000 00000000 00000000 00000000 00000000 00000000 00000000 00000000
+x24 00000000 00000000 00000000 00000000 00000000 00000000 00000000 00000000
+m 00000000 00000000 00000000 00000000 00000000 00000000 00000000 00000000 00000000 00000000
+s 00000000 00000000 00000000 00000000 00000000 00000000
+",
+    },
+    Row {
+        shows: "the largest storage",
+        input: "job 1
+storage 16384
+",
+        text: "ran 0 faults 0 recalls 0
+hart 0 -
+",
+    },
+    Row {
+        shows: "a misaligned jump",
+        input: "job 1
+storage 1
+word root 0 0x006000EF
+turn 0 1
+watch 0 root
+",
+        text: "ran 1 faults 0 recalls 0
+hart 0 -
+watch 0 - one=yes apart=yes touched=no
+count 1
+pc 00000000 mode 3 next 0
+x0 00000000 00000000 00000000 00000000 00000000 00000000 00000000 00000000
+x8 00000000 00000000 00000000 00000000 00000000 00000000 00000000 00000000
+x16 00000000 00000000 00000000 00000000 00000000 00000000 00000000 00000000
+x24 00000000 00000000 00000000 00000000 00000000 00000000 00000000 00000000
+m 00001800 00000000 00000000 00000000 00000006 00000000 00000000 00000000 00000000 00000000
+s 00000000 00000000 00000000 00000000 00000000 00000000
+",
+    },
+    Row {
+        shows: "the end of the storage",
+        input: "job 1
+storage 1
+word root 0 0x00001137 0x00900193 0xFE312E23 0x00312023
+turn 0 4
+watch 0 root
+dump root 0
+",
+        text: "ran 4 faults 0 recalls 0
+hart 0 -
+watch 0 - one=yes apart=yes touched=no
+count 4
+pc 00000000 mode 3 next 0
+x0 00000000 00000000 00001000 00000009 00000000 00000000 00000000 00000000
+x8 00000000 00000000 00000000 00000000 00000000 00000000 00000000 00000000
+x16 00000000 00000000 00000000 00000000 00000000 00000000 00000000 00000000
+x24 00000000 00000000 00000000 00000000 00000000 00000000 00000000 00000000
+m 00001800 00000000 0000000c 00000007 00001000 00000000 00000000 00000000 00000000 00000000
+s 00000000 00000000 00000000 00000000 00000000 00000000
+dump root 0
+000 3711000093019000232e31fe2320310000000000000000000000000000000000
+fe0 0000000000000000000000000000000000000000000000000000000009000000
+",
+    },
+    Row {
+        shows: "a kernel at depth 0",
+        input: "job 1
+storage 28
+tower 0 pages 4
+image top 0
+        la x6, trap
+        csrw mtvec, x6
+        li x6, 0x80000001
+        csrw satp, x6
+        li x6, 0xDF
+        li x7, 0x1000
+        sw x6, 0(x7)
+        la x6, user
+        csrw mepc, x6
+        mret
+user:   addi x10, x0, 7
+        ecall
+trap:   addi x10, x10, 35
+        csrr x11, mcause
+stay:   j stay
+end
+turn 0 20
+watch 0 top
+",
+        text: "ran 20 faults 0 recalls 0
+hart 0 -
+watch 0 - one=yes apart=yes touched=no
+count 20
+pc 0000004c mode 3 next 0
+x0 00000000 00000000 00000000 00000000 00000000 00000000 0000003c 00001000
+x8 00000000 00000000 0000002a 00000008 00000000 00000000 00000000 00000000
+x16 00000000 00000000 00000000 00000000 00000000 00000000 00000000 00000000
+x24 00000000 00000000 00000000 00000000 00000000 00000000 00000000 00000000
+m 00000000 00000044 00000040 00000008 00000000 00000000 00000000 00000000 00000000 00000000
+s 00000000 00000000 00000000 00000000 00000000 80000001
+",
+    },
+    Row {
+        shows: "a kernel at depth 1",
+        input: "job 1
+storage 28
+tower 1 pages 4
+image top 0
+        la x6, trap
+        csrw mtvec, x6
+        li x6, 0x80000001
+        csrw satp, x6
+        li x6, 0xDF
+        li x7, 0x1000
+        sw x6, 0(x7)
+        la x6, user
+        csrw mepc, x6
+        mret
+user:   addi x10, x0, 7
+        ecall
+trap:   addi x10, x10, 35
+        csrr x11, mcause
+stay:   j stay
+end
+turn 0 23
+watch 0 top
+",
+        text: "ran 23 faults 0 recalls 0
+hart 0 1
+watch 0 1 one=yes apart=yes touched=no
+count 20
+pc 0000004c mode 3 next 0
+x0 00000000 00000000 00000000 00000000 00000000 00000000 0000003c 00001000
+x8 00000000 00000000 0000002a 00000008 00000000 00000000 00000000 00000000
+x16 00000000 00000000 00000000 00000000 00000000 00000000 00000000 00000000
+x24 00000000 00000000 00000000 00000000 00000000 00000000 00000000 00000000
+m 00000000 00000044 00000040 00000008 00000000 00000000 00000000 00000000 00000000 00000000
+s 00000000 00000000 00000000 00000000 00000000 80000001
+",
+    },
+    Row {
+        shows: "a kernel at depth 3",
+        input: "job 1
+storage 28
+tower 3 pages 4
+image top 0
+        la x6, trap
+        csrw mtvec, x6
+        li x6, 0x80000001
+        csrw satp, x6
+        li x6, 0xDF
+        li x7, 0x1000
+        sw x6, 0(x7)
+        la x6, user
+        csrw mepc, x6
+        mret
+user:   addi x10, x0, 7
+        ecall
+trap:   addi x10, x10, 35
+        csrr x11, mcause
+stay:   j stay
+end
+turn 0 29
+watch 0 top
+",
+        text: "ran 29 faults 0 recalls 0
+hart 0 1.1.1
+watch 0 1.1.1 one=yes apart=yes touched=no
+count 20
+pc 0000004c mode 3 next 0
+x0 00000000 00000000 00000000 00000000 00000000 00000000 0000003c 00001000
+x8 00000000 00000000 0000002a 00000008 00000000 00000000 00000000 00000000
+x16 00000000 00000000 00000000 00000000 00000000 00000000 00000000 00000000
+x24 00000000 00000000 00000000 00000000 00000000 00000000 00000000 00000000
+m 00000000 00000044 00000040 00000008 00000000 00000000 00000000 00000000 00000000 00000000
+s 00000000 00000000 00000000 00000000 00000000 80000001
+",
+    },
+    Row {
+        shows: "a kernel at depth 8",
+        input: "job 1
+storage 28
+tower 8 pages 4
+image top 0
+        la x6, trap
+        csrw mtvec, x6
+        li x6, 0x80000001
+        csrw satp, x6
+        li x6, 0xDF
+        li x7, 0x1000
+        sw x6, 0(x7)
+        la x6, user
+        csrw mepc, x6
+        mret
+user:   addi x10, x0, 7
+        ecall
+trap:   addi x10, x10, 35
+        csrr x11, mcause
+stay:   j stay
+end
+turn 0 44
+watch 0 top
+",
+        text: "ran 44 faults 0 recalls 0
+hart 0 1.1.1.1.1.1.1.1
+watch 0 1.1.1.1.1.1.1.1 one=yes apart=yes touched=no
+count 20
+pc 0000004c mode 3 next 0
+x0 00000000 00000000 00000000 00000000 00000000 00000000 0000003c 00001000
+x8 00000000 00000000 0000002a 00000008 00000000 00000000 00000000 00000000
+x16 00000000 00000000 00000000 00000000 00000000 00000000 00000000 00000000
+x24 00000000 00000000 00000000 00000000 00000000 00000000 00000000 00000000
+m 00000000 00000044 00000040 00000008 00000000 00000000 00000000 00000000 00000000 00000000
+s 00000000 00000000 00000000 00000000 00000000 80000001
+",
+    },
+    Row {
+        shows: "a map in the middle that lacks a page",
+        input: "job 1
+storage 13
+tower 3 pages 4
+word top 0 0x00003137 0x00412083
+map t2 6 none
+turn 0 11
+watch 0 top
+",
+        text: "ran 11 faults 1 recalls 0
+hart 0 1
+watch 0 1.1.1 one=yes apart=yes touched=no
+count 1
+pc 00000004 mode 3 next 0
+x0 00000000 00000000 00003000 00000000 00000000 00000000 00000000 00000000
+x8 00000000 00000000 00000000 00000000 00000000 00000000 00000000 00000000
+x16 00000000 00000000 00000000 00000000 00000000 00000000 00000000 00000000
+x24 00000000 00000000 00000000 00000000 00000000 00000000 00000000 00000000
+m 00000000 00000000 00000000 00000000 00000000 00000000 00000000 00000000 00000000 00000000
+s 00000000 00000000 00000000 00000000 00000000 00000000
+fault 11 hart 0 level 1 cause 1 address 00006004 access 1
+",
+    },
+    Row {
+        shows: "the same, entered again",
+        input: "job 1
+storage 13
+tower 3 pages 4
+word top 0 0x00003137 0x00412083
+map t2 6 none
+turn 0 14
+watch 0 top
+",
+        text: "ran 14 faults 2 recalls 0
+hart 0 1
+watch 0 1.1.1 one=yes apart=yes touched=no
+count 1
+pc 00000004 mode 3 next 0
+x0 00000000 00000000 00003000 00000000 00000000 00000000 00000000 00000000
+x8 00000000 00000000 00000000 00000000 00000000 00000000 00000000 00000000
+x16 00000000 00000000 00000000 00000000 00000000 00000000 00000000 00000000
+x24 00000000 00000000 00000000 00000000 00000000 00000000 00000000 00000000
+m 00000000 00000000 00000000 00000000 00000000 00000000 00000000 00000000 00000000 00000000
+s 00000000 00000000 00000000 00000000 00000000 00000000
+fault 11 hart 0 level 1 cause 1 address 00006004 access 1
+fault 14 hart 0 level 1 cause 1 address 00006004 access 1
+",
+    },
+    Row {
+        shows: "a page that an outer map doesn't let be written",
+        input: "job 1
+storage 10
+tower 2 pages 4
+word top 0 0x00003137 0x00212423
+map t1 6 ro 9
+turn 0 8
+",
+        text: "ran 8 faults 1 recalls 0
+hart 0 -
+fault 8 hart 0 level 0 cause 2 address 00006008 access 2
+",
+    },
+    Row {
+        shows: "a page that neither map lets be written",
+        input: "job 1
+storage 10
+tower 2 pages 4
+word top 0 0x00003137 0x00212423
+map t1 6 ro 9
+map t2 3 ro 6
+turn 0 8
+",
+        text: "ran 8 faults 1 recalls 0
+hart 0 1
+fault 8 hart 0 level 1 cause 2 address 00003008 access 2
+",
+    },
+    Row {
+        shows: "a changed entry",
+        input: "job 1
+storage 6
+machine kid in root block 1 pages 2 table 2 at 3
+map kid 1 none
+image root 0
+        li x5, 0x1000
+        vmenter x5
+        li x6, 0x4003
+        li x7, 0x2000
+        sw x6, 0(x7)
+        vmenter x5
+stop:   j stop
+end
+word root 0x3000 0x000011B7 0x0001A103
+word root 0x4004 0x04D00093
+turn 0 12
+watch 0 kid
+",
+        text: "ran 12 faults 1 recalls 0
+hart 0 1
+watch 0 1 one=yes apart=yes touched=yes
+count 2
+pc 00000008 mode 3 next 0
+x0 00000000 0000004d 00000000 00001000 00000000 00000000 00000000 00000000
+x8 00000000 00000000 00000000 00000000 00000000 00000000 00000000 00000000
+x16 00000000 00000000 00000000 00000000 00000000 00000000 00000000 00000000
+x24 00000000 00000000 00000000 00000000 00000000 00000000 00000000 00000000
+m 00000000 00000000 00000000 00000000 00000000 00000000 00000000 00000000 00000000 00000000
+s 00000000 00000000 00000000 00000000 00000000 00000000
+fault 5 hart 0 level 0 cause 1 address 00001000 access 1
+",
+    },
+    Row {
+        shows: "a table out of sight",
+        input: "job 1
+storage 10
+tower 2 pages 4
+start top 0x1000
+map t1 2 none
+turn 0 7
+",
+        text: "ran 7 faults 1 recalls 0
+hart 0 -
+fault 7 hart 0 level 0 cause 1 address 00002004 access 1
+",
+    },
+    Row {
+        shows: "a bad block or map: word root 0x1080 2",
+        input: "job 1
+storage 4
+machine kid in root block 1 pages 1 table 2 at 3
+sample root 0 pass
+word root 0x1080 2
+turn 0 4
+",
+        text: "ran 4 faults 1 recalls 0
+hart 0 -
+fault 4 hart 0 level 0 cause 6 address 00001000 access 1
+",
+    },
+    Row {
+        shows: "a bad block or map: word root 0x1100 1",
+        input: "job 1
+storage 4
+machine kid in root block 1 pages 1 table 2 at 3
+sample root 0 pass
+word root 0x1100 1
+turn 0 4
+",
+        text: "ran 4 faults 1 recalls 0
+hart 0 -
+fault 4 hart 0 level 0 cause 6 address 00001000 access 1
+",
+    },
+    Row {
+        shows: "a bad block or map: word root 0x1104 0",
+        input: "job 1
+storage 4
+machine kid in root block 1 pages 1 table 2 at 3
+sample root 0 pass
+word root 0x1104 0
+turn 0 4
+",
+        text: "ran 4 faults 1 recalls 0
+hart 0 -
+fault 4 hart 0 level 0 cause 6 address 00001000 access 1
+",
+    },
+    Row {
+        shows: "a bad block or map: word root 0x1000 2",
+        input: "job 1
+storage 4
+machine kid in root block 1 pages 1 table 2 at 3
+sample root 0 pass
+word root 0x1000 2
+turn 0 4
+",
+        text: "ran 4 faults 1 recalls 0
+hart 0 -
+fault 4 hart 0 level 0 cause 6 address 00001000 access 1
+",
+    },
+    Row {
+        shows: "a bad block or map: map kid 0 rw 9",
+        input: "job 1
+storage 4
+machine kid in root block 1 pages 1 table 2 at 3
+sample root 0 pass
+map kid 0 rw 9
+turn 0 4
+",
+        text: "ran 4 faults 1 recalls 0
+hart 0 -
+fault 4 hart 0 level 0 cause 3 address 00000000 access 3
+",
+    },
+    Row {
+        shows: "a bad block or map: word root 0x1108 9",
+        input: "job 1
+storage 4
+machine kid in root block 1 pages 1 table 2 at 3
+sample root 0 pass
+word root 0x1108 9
+turn 0 4
+",
+        text: "ran 4 faults 1 recalls 0
+hart 0 -
+fault 4 hart 0 level 0 cause 4 address 00000000 access 3
+",
+    },
+    Row {
+        shows: "a line from outside",
+        input: "job 1
+storage 13
+tower 3 pages 4 forward
+image top 0
+        la x6, h
+        csrw mtvec, x6
+        li x6, 0x80
+        csrw mie, x6
+        csrrsi x0, mstatus, 8
+loop:   addi x1, x1, 1
+        j loop
+h:      addi x2, x0, 99
+spin:   j spin
+end
+turn 0 41
+lines 0 0x80
+turn 0 39
+watch 0 top
+",
+        text: "ran 80 faults 0 recalls 3
+hart 0 1.1.1
+watch 0 1.1.1 one=yes apart=yes touched=no
+count 14
+pc 00000028 mode 3 next 0
+x0 00000000 00000002 00000063 00000000 00000000 00000000 00000080 00000000
+x8 00000000 00000000 00000000 00000000 00000000 00000000 00000000 00000000
+x16 00000000 00000000 00000000 00000000 00000000 00000000 00000000 00000000
+x24 00000000 00000000 00000000 00000000 00000000 00000000 00000000 00000000
+m 00001880 00000024 0000001c 80000007 00000000 00000000 00000000 00000000 00000080 00000080
+s 00000000 00000000 00000000 00000000 00000000 00000000
+line 11 00000080
+",
+    },
+    Row {
+        shows: "a guest that sees its own block",
+        input: "job 1
+storage 5
+machine kid in root block 1 pages 2 table 2 at 3
+map kid 1 rw 1
+sample root 0 pass
+word root 0x3000 0x00500093 0x00001137 0x00412183
+turn 0 6
+watch 0 kid
+",
+        text: "ran 6 faults 0 recalls 0
+hart 0 1
+watch 0 1 one=yes apart=no touched=no
+count 3
+pc 0000000c mode 3 next 0
+x0 00000000 00000005 00001000 00000005 00000000 00000000 00000000 00000000
+x8 00000000 00000000 00000000 00000000 00000000 00000000 00000000 00000000
+x16 00000000 00000000 00000000 00000000 00000000 00000000 00000000 00000000
+x24 00000000 00000000 00000000 00000000 00000000 00000000 00000000 00000000
+m 00000000 00000000 00000000 00000000 00000000 00000000 00000000 00000000 00000000 00000000
+s 00000000 00000000 00000000 00000000 00000000 00000000
+",
+    },
+    Row {
+        shows: "a machine too deep",
+        input: "job 1
+storage 28
+tower 8 pages 4
+sample top 0 pass
+turn 0 28
+watch 0 top
+",
+        text: "ran 28 faults 1 recalls 0
+hart 0 -
+watch 0 1.1.1.1.1.1.1.1 one=yes apart=yes touched=no
+count 3
+pc 0000000c mode 3 next 1
+x0 00000000 00000000 00000000 00000000 00000000 00001000 00000000 00000000
+x8 00000000 00000000 00000000 00000000 00000000 00000000 00000000 00000000
+x16 00000000 00000000 00000000 00000000 00000000 00000000 00000000 00000000
+x24 00000000 00000000 00000000 00000000 00000000 00000000 00000000 00000000
+m 00000000 00000000 00000000 00000000 00000000 00000000 00000000 00000000 00000000 00000000
+s 00000000 00000000 00000000 00000000 00000000 00000000
+fault 28 hart 0 level 0 cause 5 address 00001000 access 1
+",
+    },
+    Row {
+        shows: "a fault that the block of an outer machine undoes",
+        input: "job 1
+storage 8
+machine kid in root block 1 pages 4 table 2 at 4
+map kid 1 rw 1
+map kid 2 rw 5
+map kid 3 rw 6
+word root 0x5000 3 0x1003 0x3003 0x3003
+word root 0x1100 1
+sample root 0 pass
+turn 0 6
+",
+        text: "ran 6 faults 3 recalls 0
+hart 0 1.1.1
+fault 4 hart 0 level 2 cause 1 address 00001000 access 2
+fault 5 hart 0 level 2 cause 1 address 00001000 access 2
+fault 6 hart 0 level 2 cause 1 address 00001000 access 2
+",
+    },
+];
+
+/// Two harts, each with a monitor that shares it between two kernels.
+pub static KERNELS: Row = Row {
+    shows: "two harts with four kernels",
+    input: "job 1
+storage 13
+harts 2
+machine a in root block 1 pages 1 table 5 at 9
+machine b in root block 2 pages 1 table 6 at 10
+machine c in root block 3 pages 1 table 7 at 11
+machine d in root block 4 pages 1 table 8 at 12
+sample root 0 slicer
+word root 0x9000 0x00108093 0xFFDFF06F
+word root 0xA000 0x00108093 0xFFDFF06F
+word root 0xB000 0x00108093 0xFFDFF06F
+word root 0xC000 0x00108093 0xFFDFF06F
+turn 0 25017
+turn 1 25017
+lines 0 0x80
+turn 0 2
+lines 0 0
+turn 0 24981
+lines 1 0x80
+turn 1 2
+lines 1 0
+turn 1 24981
+watch 0 a
+watch 0 b
+watch 1 c
+watch 1 d
+",
+    text: "ran 100000 faults 0 recalls 2
+hart 0 2
+hart 1 4
+watch 0 1 one=yes apart=yes touched=no
+count 25000
+pc 00000000 mode 3 next 0
+x0 00000000 000030d4 00000000 00000000 00000000 00000000 00000000 00000000
+x8 00000000 00000000 00000000 00000000 00000000 00000000 00000000 00000000
+x16 00000000 00000000 00000000 00000000 00000000 00000000 00000000 00000000
+x24 00000000 00000000 00000000 00000000 00000000 00000000 00000000 00000000
+m 00000000 00000000 00000000 00000000 00000000 00000000 00000000 00000000 00000000 00000000
+s 00000000 00000000 00000000 00000000 00000000 00000000
+watch 0 2 one=yes apart=yes touched=no
+count 24977
+pc 00000004 mode 3 next 0
+x0 00000000 000030c9 00000000 00000000 00000000 00000000 00000000 00000000
+x8 00000000 00000000 00000000 00000000 00000000 00000000 00000000 00000000
+x16 00000000 00000000 00000000 00000000 00000000 00000000 00000000 00000000
+x24 00000000 00000000 00000000 00000000 00000000 00000000 00000000 00000000
+m 00000000 00000000 00000000 00000000 00000000 00000000 00000000 00000000 00000000 00000000
+s 00000000 00000000 00000000 00000000 00000000 00000000
+watch 1 3 one=yes apart=yes touched=no
+count 25000
+pc 00000000 mode 3 next 0
+x0 00000000 000030d4 00000000 00000000 00000000 00000000 00000000 00000000
+x8 00000000 00000000 00000000 00000000 00000000 00000000 00000000 00000000
+x16 00000000 00000000 00000000 00000000 00000000 00000000 00000000 00000000
+x24 00000000 00000000 00000000 00000000 00000000 00000000 00000000 00000000
+m 00000000 00000000 00000000 00000000 00000000 00000000 00000000 00000000 00000000 00000000
+s 00000000 00000000 00000000 00000000 00000000 00000000
+watch 1 4 one=yes apart=yes touched=no
+count 24977
+pc 00000004 mode 3 next 0
+x0 00000000 000030c9 00000000 00000000 00000000 00000000 00000000 00000000
+x8 00000000 00000000 00000000 00000000 00000000 00000000 00000000 00000000
+x16 00000000 00000000 00000000 00000000 00000000 00000000 00000000 00000000
+x24 00000000 00000000 00000000 00000000 00000000 00000000 00000000 00000000
+m 00000000 00000000 00000000 00000000 00000000 00000000 00000000 00000000 00000000 00000000
+s 00000000 00000000 00000000 00000000 00000000 00000000
+",
+};

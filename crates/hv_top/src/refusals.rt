@@ -50,8 +50,9 @@ jump",
     Refusal {
         input: "job 1
 storage 4
-debug",
-        line: 3,
+debug
+steps 1",
+        line: 4,
         kind: "directive",
     },
     Refusal {

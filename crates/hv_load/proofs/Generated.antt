@@ -8,7 +8,7 @@ use Rattle.std.proofs.lemmas.List.Sums.{sum_by-append, sum_by-cons}
 use Rattle.hv_irq.specs.declared.Event.{Event}
 use Rattle.hv_irq.specs.declared.Event.TheVariants.{Turn}
 use Rattle.hv_isa.specs.declared.Instr.{Instr}
-use Rattle.hv_job.specs.IsJob.{IsJob, IsRanged, TurnOf, bytes_of, event_of, happening_of, is_dump, is_machine, is_watch}
+use Rattle.hv_job.specs.IsJob.{IsCommand, IsJob, IsRanged, TurnOf, bytes_of, event_of, happening_of, is_dump, is_machine, is_watch}
 use Rattle.hv_job.specs.declared.job.DebugLine.{DebugLine}
 use Rattle.hv_job.specs.declared.job.Job.{Job}
 use Rattle.hv_job.specs.declared.job.Placed.{Placed}
@@ -126,6 +126,9 @@ job_meets depth kernel low size =
       watches = omega (arith, counted (λ placed. cond (is_watch placed.what) 1 0) (λ k. refl) depth kernel turns);
       dumps = omega (arith, counted (λ placed. cond (is_dump placed.what) 1 0) (λ k. refl) depth kernel turns);
       images = omega (arith, counted (λ placed. bytes_of placed.what) (λ k. refl) depth kernel turns, size);
+      commands = All-nil (λ (line : DebugLine). IsCommand line.what);
+      commanded = lit≤ tt;
+      breaks = lit≤ tt;
     }
 
 -- the same of the job that is made of the parts

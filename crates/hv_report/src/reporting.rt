@@ -47,7 +47,11 @@ pub(crate) fn put_head(alloc: Global, out: &mut Vec<u8>, played: &Record) -> Res
 
 // Appends the line of each hart.
 #[tactic(auto, unfolding(crate::specs::Report::first_harts), using(crate::proofs::Rows::numbers))]
-pub(crate) fn put_harts<N: Nested>(alloc: Global, out: &mut Vec<u8>, nested: &mut N) -> Result<(), AllocError>
+pub(crate) fn put_harts<N: Nested>(
+    alloc: Global,
+    out: &mut Vec<u8>,
+    nested: &mut N,
+) -> Result<(), AllocError>
     ensures text { OnOk result (out.new.items ≡ out.old.items ++ harts_text (N.state nested.old)) }
     ensures same { N.state nested.new ≡ N.state nested.old }
 {
@@ -107,7 +111,11 @@ fn put_watch<N: Nested>(
 }
 
 // Appends what holds of a watched machine at the start and over the play.
-pub(crate) fn put_watch_line(alloc: Global, out: &mut Vec<u8>, watch: &WatchRow) -> Result<(), AllocError>
+pub(crate) fn put_watch_line(
+    alloc: Global,
+    out: &mut Vec<u8>,
+    watch: &WatchRow,
+) -> Result<(), AllocError>
     ensures { OnOk result (out.new.items ≡ out.old.items ++ watch_line watch.now) }
 {
     put_number(alloc, out, b"watch ", u64::from(watch.hart))?;

@@ -1,4 +1,0 @@
-pub mod Answers
-pub mod Playing
-pub mod Reaching
-pub mod Transcript

@@ -1,4 +1,0 @@
-pub mod Laid
-pub mod Tower
-pub mod Same
-pub mod Towers

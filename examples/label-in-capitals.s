@@ -1,0 +1,2 @@
+Foo:    nop
+        j Foo

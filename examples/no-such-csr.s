@@ -1,0 +1,1 @@
+        csrr x1, foo

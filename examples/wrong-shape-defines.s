@@ -1,0 +1,2 @@
+        j a
+a:      nop nop

@@ -1,2 +1,2 @@
         j a
-a:      nop nop
+a:      nop, nop

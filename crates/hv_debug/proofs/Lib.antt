@@ -1,0 +1,6 @@
+pub mod Lines
+pub mod Playings
+pub mod Reaches
+pub mod Schedules
+pub mod Sessions
+pub mod Unmoved

@@ -1,0 +1,4 @@
+pub mod Answers
+pub mod Playing
+pub mod Reaching
+pub mod Transcript

@@ -1,0 +1,4 @@
+pub mod Laid
+pub mod Tower
+pub mod Same
+pub mod Towers

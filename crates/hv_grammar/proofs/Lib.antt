@@ -1,0 +1,11 @@
+pub mod Deeds
+pub mod Tests
+pub mod Means
+pub mod Formed
+pub mod Calls
+pub mod Steps
+pub mod Inside
+pub mod Telling
+pub mod Through
+pub mod Ways
+pub mod Late

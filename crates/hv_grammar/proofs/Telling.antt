@@ -1,0 +1,222 @@
+-- What a line of directives tells.
+use Rattle.std.proofs.Common.{◌≡◌, ℕ, zero, suc, ◌+◌, ◌≤◌, Bool, true, false, cond, codes, List, [], ◌∷◌, ◌++◌, length, map, take, find, Option, Some, None, Result, Ok, Err, refl, sym, ap, ◌∙◌, subst, arith, append-nil}
+use Rattle.std.specs.Result.{is_ok}
+use Rattle.hv_asm.specs.Assembly.{asm_of}
+use Rattle.hv_asm.specs.declared.AsmKind.{AsmKind}
+use Rattle.hv_irq.specs.Events.{refusal_of}
+use Rattle.hv_irq.specs.declared.Event.{Event}
+use Rattle.hv_irq.specs.declared.Event.TheVariants as event
+use Rattle.hv_irq.specs.declared.PushEnd.{PushEnd}
+use Rattle.hv_samples.specs.Samples.{sample_text}
+use Rattle.hv_samples.specs.declared.choice.Sample.{Sample}
+use Rattle.hv_job.specs.Asked.{asked_of}
+use Rattle.hv_job.specs.JobOf.{at_line, before_end, begins_image, event_with, happened, harts_with, image_added, image_of, image_with, image_words, is_end, is_image, is_many, line_with, lines_with, placed, sample_with, words_with}
+use Rattle.hv_job.specs.Lines.{begins_with, has_words, is_allowed, words_of}
+use Rattle.hv_job.specs.declared.ends.JobKind.{JobKind}
+use Rattle.hv_job.specs.declared.ends.JobKind.TheVariants as fault
+use Rattle.hv_job.specs.declared.job.Directive.{Directive}
+use Rattle.hv_job.specs.declared.job.Directive.TheVariants as directive
+use Rattle.hv_grammar.specs.Forms.{Form, IsLine, Storage, Harts, Image, Sampled, Turn, Lines}
+use Rattle.hv_grammar.specs.Said.{AssemblesWith, Said, Directed, Inner, Nothing, IsAssembled, assembled, commands_by, directives_by, events_by, harts_by, inner_lines, on_line, placed_by}
+use Rattle.hv_grammar.specs.Texts.{Goes, IsAllowed, Place, AmongDirectives, InsideImage, NoWords, DirectiveLine, ImageLine}
+use Rattle.hv_grammar.proofs.Deeds.{Draft, does}
+use Rattle.hv_grammar.proofs.Formed.{Formed, words_formed}
+use Rattle.hv_grammar.proofs.Inside.{Ends, before_few, image_at, inner_goes}
+use Rattle.hv_grammar.proofs.Means.{Asked, form_means, is_image_form}
+use Rattle.hv_grammar.proofs.Steps.{Stops, by_result, by_test, no_words, stops, unless}
+
+-- where the lines behind a line stand
+abbrev pub place_in : Bool → Place
+place_in true = InsideImage
+place_in false = AmongDirectives
+
+abbrev pub or_first : Option ℕ → Option ℕ → Option ℕ
+or_first (Some n) more = Some n
+or_first None more = more
+
+-- what a line tells: where it goes, and the draft that it makes
+pub record Told (draft : Draft) (n : ℕ) (line : List ℕ) (lines : List (List ℕ)) (image : Bool) (next : Draft) : Type 0 where
+  pub said : Said
+  pub goes : Goes AmongDirectives line said (place_in image)
+  pub ends : image ≡ true → Ends lines
+  pub pages : next.pages ≡ draft.pages
+  pub harts : (more : Option ℕ) → or_first next.harts more ≡ or_first draft.harts (harts_by said more)
+  pub directives : (behind : List Said) → (image ≡ true → inner_lines behind ≡ before_end lines) → next.lines ≡ draft.lines ++ placed_by n said behind
+  pub events : next.recording ≡ draft.recording ++ events_by said
+  pub calls : commands_by n said ≡ []
+  pub assembled : (behind : List Said) → (image ≡ true → inner_lines behind ≡ before_end lines) → AssemblesWith said behind
+
+-- a line of directives goes on, and the image that it begins has an end; or it is refused, perhaps inside its image
+abbrev pub Says : Draft → ℕ → List ℕ → List (List ℕ) → Bool → Result Draft (ℕ × JobKind) → Type 0
+Says draft n line lines image (Ok next) = Told draft n line lines image next
+Says draft n line lines image (Err refusal) = Stops AmongDirectives n (line ∷ lines) refusal.0
+
+-- refused inside the image, or at its end
+inner_stops : (n j m : ℕ) (line : List ℕ) (lines : List (List ℕ)) (said : Said) → Goes AmongDirectives line said InsideImage → j ≤ length (before_end lines) → m ≡ n + suc j → Stops AmongDirectives n (line ∷ lines) m
+inner_stops n j m line lines said goes few is =
+    let all = before_few lines in
+    record {
+      k = suc j;
+      is = is;
+      within = omega (arith, few, all);
+      says = said ∷ map Inner (take j lines);
+      place = InsideImage;
+      goes_on = (InsideImage, goes, inner_goes j lines few);
+    }
+
+module _ (draft : Draft) (n : ℕ) (line : List ℕ) (lines : List (List ℕ)) where
+  refused : Stops AmongDirectives n (line ∷ lines) n
+  refused = stops AmongDirectives n (line ∷ lines)
+
+  -- an image
+  module _ (name : List ℕ) (base : ℕ) (goes : Goes AmongDirectives line (Directed (Image name base)) InsideImage) where
+    image_told : (last words : List ℕ) → find is_end lines ≡ Some last → IsAllowed last → image_words base (before_end lines) ≡ Ok words → (b : Bool) → Says draft n line lines true (at_line (n + 1 + length (before_end lines)) (cond b (Err fault.Many) (Ok (record draft { lines = lines_with draft.lines n (directive.Image name (record { base = base; words = words })) }))))
+    image_told last words found allowed is true = inner_stops n (length (before_end lines)) _ line lines (Directed (Image name base)) goes (omega arith) (omega arith)
+    image_told last words found allowed is false = record {
+      said = Directed (Image name base);
+      goes = goes;
+      ends = λ image. record { last = last; is = found; allowed = allowed };
+      pages = refl;
+      harts = λ more. refl;
+      directives = λ behind inner.
+          ap (λ (ws : List ℕ). lines_with draft.lines n (directive.Image name (record { base = base; words = ws })))
+          (sym (ap (λ ls. assembled (image_words base ls)) (inner refl) ∙ ap assembled is));
+      events = sym (append-nil draft.recording);
+      calls = refl;
+      assembled = λ behind inner. ap (λ ls. is_ok (image_words base ls)) (inner refl) ∙ ap is_ok is;
+    }
+
+    end_told : (last words : List ℕ) → find is_end lines ≡ Some last → image_words base (before_end lines) ≡ Ok words → Says draft n line lines true (at_line (n + 1 + length (before_end lines)) (cond (is_allowed last) (placed draft n (directive.Image name (record { base = base; words = words }))) (Err fault.Byte)))
+    unfolding placed
+    end_told last words found is =
+        by_test (λ (r : Result Draft JobKind). Says draft n line lines true (at_line (n + 1 + length (before_end lines)) r)) (is_allowed last) _ _
+        (λ allowed. image_told last words found allowed is (is_many draft.lines (directive.Image name (record { base = base; words = words }))))
+        (λ no. inner_stops n (length (before_end lines)) _ line lines (Directed (Image name base)) goes (omega arith) (omega arith))
+
+    inside : (k : ℕ) (kind : AsmKind) → image_words base (before_end lines) ≡ Err (k, kind) → Stops AmongDirectives n (line ∷ lines) (n + k)
+    inside zero kind is = let a = image_at base zero kind (before_end lines) is in let l : 1 ≤ zero = a.0 in absurd (omega (arith, l))
+    inside (suc j) kind is =
+        let a = image_at base (suc j) kind (before_end lines) is in let h : suc j ≤ length (before_end lines) = a.1 in
+        inner_stops n j (n + suc j) line lines (Directed (Image name base)) goes (omega (arith, h)) refl
+
+    image_given : (o : Option (List ℕ)) → find is_end lines ≡ o → Says draft n line lines true (image_of draft n name base (before_end lines) o)
+    image_given None found = refused
+    image_given (Some last) found =
+        by_result (λ (r : Result (List ℕ) (ℕ × AsmKind)). Says draft n line lines true (image_with draft n (n + 1 + length (before_end lines)) last name base r)) (image_words base (before_end lines))
+        (λ words is. end_told last words found is) (λ refusal is. inside refusal.0 refusal.1 is)
+
+    image_says : Says draft n line lines true (image_added draft n name base lines)
+    unfolding image_added
+    image_says = image_given (find is_end lines) refl
+
+  -- a directive without an event
+  placed_told : (form : Form) (what : Directive) → Goes AmongDirectives line (Directed form) AmongDirectives → ((behind : List Said) → directives_by form behind ≡ what ∷ []) → events_by (Directed form) ≡ [] → ((more : Option ℕ) → harts_by (Directed form) more ≡ more) → ((behind : List Said) → IsAssembled form behind) → Says draft n line lines false (at_line n (placed draft n what))
+  unfolding placed
+  placed_told form what goes one none same assembles =
+      by_test (λ (r : Result Draft JobKind). Says draft n line lines false (at_line n r)) (is_many draft.lines what) _ _ (λ many. refused) (λ few. record {
+        said = Directed form;
+        goes = goes;
+        ends = λ image. cc;
+        pages = refl;
+        harts = λ more. ap (or_first draft.harts) (sym (same more));
+        directives = λ behind inner. ap (λ ds. draft.lines ++ on_line n ds) (sym (one behind));
+        events = sym (ap (λ es. draft.recording ++ es) none ∙ append-nil draft.recording);
+        calls = refl;
+        assembled = λ behind inner. assembles behind;
+      })
+
+  -- a sample
+  sample_told : (name : List ℕ) (at : ℕ) (which : Sample) → Goes AmongDirectives line (Directed (Sampled name at which)) AmongDirectives → (r : Result (List ℕ) (ℕ × AsmKind)) → asm_of (sample_text which) at ≡ r → Says draft n line lines false (at_line n (sample_with draft n name at r))
+  sample_told name at which goes (Ok words) is =
+      placed_told (Sampled name at which) (directive.Sample name (record { base = at; words = words })) goes
+      (λ behind. ap (λ (r : Result (List ℕ) (ℕ × AsmKind)). directive.Sample name (record { base = at; words = assembled r }) ∷ []) is) refl (λ more. refl) (λ behind. ap is_ok is)
+  sample_told name at which goes (Err refusal) is = refused
+
+  -- an event
+  event_told : (form : Form) (what : Directive) (new : Event) → Goes AmongDirectives line (Directed form) AmongDirectives → ((behind : List Said) → directives_by form behind ≡ what ∷ []) → events_by (Directed form) ≡ new ∷ [] → ((more : Option ℕ) → harts_by (Directed form) more ≡ more) → ((behind : List Said) → IsAssembled form behind) → (o : Option PushEnd) → Says draft n line lines false (at_line n (event_with draft n what new o))
+  event_told form what new goes one some same assembles (Some end) = refused
+  event_told form what new goes one some same assembles None = record {
+    said = Directed form;
+    goes = goes;
+    ends = λ image. cc;
+    pages = refl;
+    harts = λ more. ap (or_first draft.harts) (sym (same more));
+    directives = λ behind inner. ap (λ ds. draft.lines ++ on_line n ds) (sym (one behind));
+    events = ap (λ es. draft.recording ++ es) (sym some);
+    calls = refl;
+    assembled = λ behind inner. assembles behind;
+  }
+
+  happened_told : (form : Form) (what : Directive) (new : Event) → Goes AmongDirectives line (Directed form) AmongDirectives → ((behind : List Said) → directives_by form behind ≡ what ∷ []) → events_by (Directed form) ≡ new ∷ [] → ((more : Option ℕ) → harts_by (Directed form) more ≡ more) → ((behind : List Said) → IsAssembled form behind) → Says draft n line lines false (at_line n (happened draft n what new))
+  unfolding happened
+  happened_told form what new goes one some same assembles =
+      event_told form what new goes one some same assembles (refusal_of draft.recording new)
+
+  -- the number of harts
+  harts_told : (harts : ℕ) → Goes AmongDirectives line (Directed (Harts harts)) AmongDirectives → (o : Option ℕ) → draft.harts ≡ o → Says draft n line lines false (at_line n (harts_with draft harts o))
+  harts_told harts goes (Some before) is = refused
+  harts_told harts goes None is = record {
+    said = Directed (Harts harts);
+    goes = goes;
+    ends = λ image. cc;
+    pages = refl;
+    harts = λ more. ap (λ o. or_first o (Some harts)) (sym is);
+    directives = λ behind inner. sym (append-nil draft.lines);
+    events = sym (append-nil draft.recording);
+    calls = refl;
+    assembled = λ behind inner. tt;
+  }
+
+  does_says : (form : Form) → IsAllowed line → IsLine (words_of line) form → Says draft n line lines (is_image_form form) (does draft n lines form)
+  does_says (Storage pages) allowed is = refused
+  does_says (Harts harts) allowed is = harts_told harts (DirectiveLine (Harts harts) tt allowed is) draft.harts refl
+  does_says (Image name at) allowed is = image_says name at (ImageLine name at allowed is)
+  does_says (Sampled name at which) allowed is =
+      sample_told name at which (DirectiveLine (Sampled name at which) tt allowed is) (asm_of (sample_text which) at) refl
+  does_says (Turn hart count) allowed is =
+      happened_told (Turn hart count) (directive.Turn hart) (event.Turn hart count) (DirectiveLine (Turn hart count) tt allowed is) (λ behind. refl) refl (λ more. refl) (λ behind. tt)
+  does_says (Lines hart mask) allowed is =
+      happened_told (Lines hart mask) (directive.Lines hart) (event.Lines hart mask) (DirectiveLine (Lines hart mask) tt allowed is) (λ behind. refl) refl (λ more. refl) (λ behind. tt)
+  does_says form allowed is =
+      placed_told form _ (DirectiveLine form tt allowed is) (λ behind. refl) refl (λ more. refl) (λ behind. tt)
+
+  asked_says : (asked : Asked) → IsAllowed line → asked_of (words_of line) ≡ Ok asked → Says draft n line lines (begins_image line) (words_with draft n lines (asked_of (words_of line)))
+  unfolding begins_image
+  asked_says asked allowed is =
+      let f : Formed (words_of line) = words_formed (words_of line) asked is in
+      let m = form_means f.0 (words_of line) f.1 in
+      subst (λ b. Says draft n line lines b (words_with draft n lines (asked_of (words_of line)))) (sym m.image)
+      (subst (Says draft n line lines (is_image_form f.0)) (sym (m.deeds draft n lines)) (does_says f.0 allowed f.1))
+
+  no_image : words_of line ≡ [] → begins_image line ≡ false
+  unfolding begins_image asked_of
+  no_image none = ap (λ words. is_image (asked_of words)) none
+
+  skipped : IsAllowed line → words_of line ≡ [] → Told draft n line lines (begins_image line) draft
+  skipped allowed none =
+      subst (λ b. Told draft n line lines b draft) (sym (no_image none))
+      (record {
+        said = Nothing;
+        goes = NoWords tt allowed none;
+        ends = λ image. cc;
+        pages = refl;
+        harts = λ more. refl;
+        directives = λ behind inner. sym (append-nil draft.lines);
+        events = sym (append-nil draft.recording);
+        calls = refl;
+        assembled = λ behind inner. tt;
+      })
+
+  given : IsAllowed line → (r : Result Asked JobKind) → asked_of (words_of line) ≡ r → Says draft n line lines (begins_image line) (words_with draft n lines (asked_of (words_of line)))
+  given allowed (Ok asked) is = asked_says asked allowed is
+  given allowed (Err kind) is =
+      subst (λ (r : Result Asked JobKind). Says draft n line lines (begins_image line) (words_with draft n lines r)) (sym is) refused
+
+  pub line_says : Says draft n line lines (begins_image line) (line_with draft n line lines)
+  unfolding line_with
+  line_says =
+      unless (Says draft n line lines (begins_image line)) (is_allowed line) _ _ (λ no. refused) (λ allowed.
+      unless (Says draft n line lines (begins_image line)) (has_words line) _ _ (λ none. skipped allowed (no_words line none)) (λ some.
+      by_test (Says draft n line lines (begins_image line)) (begins_with (codes "storage") (words_of line)) _ _ (λ storage. refused) (λ other.
+      by_test (Says draft n line lines (begins_image line)) (begins_with (codes "debug") (words_of line)) _ _ (λ debug. refused) (λ directive.
+      given allowed (asked_of (words_of line)) refl))))

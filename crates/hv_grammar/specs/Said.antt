@@ -1,0 +1,141 @@
+-- What the lines of a text say, and the job of all that.
+use Rattle.std.specs.Prelude.{ℕ, ◌+◌, ◌*◌, List, [], ◌∷◌, ◌++◌, unwrap_or, Option, Some, None, Result, Ok, Err, IsOk}
+use Rattle.hv_asm.specs.Assembly.{asm_of}
+use Rattle.hv_asm.specs.declared.AsmKind.{AsmKind}
+use Rattle.hv_irq.specs.declared.Event.{Event}
+use Rattle.hv_irq.specs.declared.Event.TheVariants as event
+use Rattle.hv_samples.specs.Samples.{sample_text}
+use Rattle.hv_samples.specs.declared.choice.Sample.TheVariants.{Pass}
+use Rattle.hv_job.specs.Commands.{joined}
+use Rattle.hv_job.specs.JobOf.{image_words}
+use Rattle.hv_job.specs.declared.job.DebugCommand.{DebugCommand}
+use Rattle.hv_job.specs.declared.job.DebugLine.{DebugLine}
+use Rattle.hv_job.specs.declared.job.Directive.{Directive}
+use Rattle.hv_job.specs.declared.job.Directive.TheVariants as directive
+use Rattle.hv_job.specs.declared.job.Job.{Job}
+use Rattle.hv_job.specs.declared.job.Placed.{Placed}
+use Rattle.hv_grammar.specs.Forms.{Form, Storage, Harts, Hart, Machine, MapNone, MapRead, MapWrite, Start, Image, Sampled, Words, Tower, TowerOf, Turn, Lines, Watch, Dump}
+
+-- What a line says.
+pub data Said : Type 0 where
+  -- nothing, as the header, the end of an image, `debug` and a line without words do
+  Nothing : Said
+  -- a directive
+  Directed : (form : Form) → Said
+  -- a line of assembly
+  Inner : (line : List ℕ) → Said
+  -- a command of the debugger
+  Called : (words : List (List ℕ)) (what : DebugCommand) → Said
+
+-- the words that were assembled
+abbrev pub assembled : Result (List ℕ) (ℕ × AsmKind) → List ℕ
+assembled (Ok words) = words
+assembled (Err refusal) = []
+
+-- the lines of assembly that come first
+abbrev pub inner_lines : List Said → List (List ℕ)
+inner_lines (Inner line ∷ says) = line ∷ inner_lines says
+inner_lines [] = []
+inner_lines (Nothing ∷ says) = []
+inner_lines (Directed form ∷ says) = []
+inner_lines (Called words what ∷ says) = []
+
+-- The directives of a form; what is said behind it has the lines of its image. An entry of a map has its bit 0 set where the
+-- page is there, and its bit 1 where it may be written.
+abbrev pub directives_by : Form → List Said → List Directive
+directives_by (Storage pages) behind = []
+directives_by (Harts harts) behind = []
+directives_by (Hart hart at) behind = directive.Hart hart at ∷ []
+directives_by (Machine name parent block pages table at) behind =
+    directive.Machine name parent block pages table at ∷ []
+directives_by (MapNone name page) behind = directive.Map name page 0 ∷ []
+directives_by (MapRead name page at) behind = directive.Map name page (at * 4096 + 1) ∷ []
+directives_by (MapWrite name page at) behind = directive.Map name page (at * 4096 + 3) ∷ []
+directives_by (Start name at) behind = directive.Start name at ∷ []
+directives_by (Image name at) behind =
+    directive.Image name (record { base = at; words = assembled (image_words at (inner_lines behind)) }) ∷ []
+directives_by (Sampled name at which) behind =
+    directive.Sample name (record { base = at; words = assembled (asm_of (sample_text which) at) }) ∷ []
+directives_by (Words name at values) behind = directive.Word name at values ∷ []
+directives_by (Tower depth pages) behind = directive.Tower depth pages Pass ∷ []
+directives_by (TowerOf depth pages which) behind = directive.Tower depth pages which ∷ []
+directives_by (Turn hart count) behind = directive.Turn hart ∷ []
+directives_by (Lines hart mask) behind = directive.Lines hart ∷ []
+directives_by (Watch hart name) behind = directive.Watch hart name ∷ []
+directives_by (Dump name page) behind = directive.Dump name page ∷ []
+
+-- its image, or its sample, is assembled
+abbrev pub IsAssembled : Form → List Said → Type 0
+IsAssembled (Image name at) behind = IsOk (image_words at (inner_lines behind))
+IsAssembled (Sampled name at which) behind = IsOk (asm_of (sample_text which) at)
+IsAssembled _ behind = Unit {0}
+
+abbrev pub AssemblesWith : Said → List Said → Type 0
+AssemblesWith (Directed form) behind = IsAssembled form behind
+AssemblesWith _ behind = Unit {0}
+
+-- all images and samples are assembled
+abbrev pub AreAssembled : List Said → Type 0
+AreAssembled [] = Unit {0}
+AreAssembled (said ∷ says) = AssemblesWith said says × AreAssembled says
+
+-- each on the line of this number
+abbrev pub on_line : ℕ → List Directive → List Placed
+on_line number [] = []
+on_line number (what ∷ rest) = record { line = number; what = what } ∷ on_line number rest
+
+abbrev pub placed_by : ℕ → Said → List Said → List Placed
+placed_by number (Directed form) behind = on_line number (directives_by form behind)
+placed_by number _ behind = []
+
+-- the directives of what is said, from the line of this number on
+abbrev pub placed_said : ℕ → List Said → List Placed
+placed_said number [] = []
+placed_said number (said ∷ says) = placed_by number said says ++ placed_said (number + 1) says
+
+abbrev pub events_by : Said → List Event
+events_by (Directed (Turn hart count)) = event.Turn hart count ∷ []
+events_by (Directed (Lines hart mask)) = event.Lines hart mask ∷ []
+events_by _ = []
+
+-- the schedule
+abbrev pub events_said : List Said → List Event
+events_said [] = []
+events_said (said ∷ says) = events_by said ++ events_said says
+
+abbrev pub pages_by : Said → ℕ → ℕ
+pages_by (Directed (Storage pages)) behind = pages
+pages_by _ behind = behind
+
+-- the pages of the storage
+abbrev pub pages_said : List Said → ℕ
+pages_said [] = 0
+pages_said (said ∷ says) = pages_by said (pages_said says)
+
+abbrev pub harts_by : Said → Option ℕ → Option ℕ
+harts_by (Directed (Harts harts)) behind = Some harts
+harts_by _ behind = behind
+
+-- the number of harts, if a line gives it
+abbrev pub harts_said : List Said → Option ℕ
+harts_said [] = None
+harts_said (said ∷ says) = harts_by said (harts_said says)
+
+abbrev pub commands_by : ℕ → Said → List DebugLine
+commands_by number (Called words what) = record { line = number; words = joined words; what = what } ∷ []
+commands_by number _ = []
+
+-- the commands, from the line of this number on
+abbrev pub commands_said : ℕ → List Said → List DebugLine
+commands_said number [] = []
+commands_said number (said ∷ says) = commands_by number said ++ commands_said (number + 1) says
+
+-- the job of what is said, from the line of this number on
+abbrev pub job_said : ℕ → List Said → Job
+job_said number says = record {
+  pages = pages_said says;
+  harts = unwrap_or (harts_said says) 1;
+  lines = placed_said number says;
+  recording = events_said says;
+  commands = commands_said number says;
+}

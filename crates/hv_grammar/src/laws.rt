@@ -1,0 +1,31 @@
+//! What a job's lines look like. Each function here is empty: it states one law, which is proved.
+
+ghost use Rattle.hv_grammar.specs.Forms.{CommandFormLaw, LineFormLaw};
+ghost use Rattle.hv_grammar.specs.Texts.{AcceptedTextLaw, RefusedTextLaw, ThroughTextLaw};
+
+/// A line asks for something exactly where its words are those of a form, with every value in its range.
+pub fn lines_are_their_forms()
+    ensures { LineFormLaw }
+{}
+
+/// A line is a command of the debugger exactly where its words are those of a form of that command, in range.
+pub fn commands_are_their_forms()
+    ensures { CommandFormLaw }
+{}
+
+/// The lines of a text that is a job go from the header through the storage, the directives and the images, and then perhaps
+/// through the commands; and the job is what they say, one after another.
+pub fn accepted_texts_go_through()
+    ensures { AcceptedTextLaw }
+{}
+
+/// The lines of a refused text go this way up to the line that is refused.
+pub fn lines_before_the_refused_one_are_good()
+    ensures { RefusedTextLaw }
+{}
+
+/// A text whose lines go this way to their end is refused for a limit, a second number of harts, or what an image or a sample is
+/// assembled to, and for nothing else.
+pub fn texts_that_go_through_have_no_other_fault()
+    ensures { ThroughTextLaw }
+{}

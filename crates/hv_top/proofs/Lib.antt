@@ -1,4 +1,10 @@
+pub mod Inputs
+pub mod Kept
 pub mod Lines
 pub mod Events
 pub mod Played
+pub mod Parked
+pub mod Told
+pub mod Shown
 pub mod Started
+pub mod Twins

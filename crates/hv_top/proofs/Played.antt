@@ -1,8 +1,7 @@
 -- What holds when a start has been played.
-use Rattle.std.proofs.Common.{◌≡◌, ℕ, suc, ◌+◌, ◌<◌, ◌≤◌, Option, Some, None, List, [], ◌∷◌, ◌++◌, length, refl, sym, ap, ◌∙◌, subst, arith}
-use Rattle.std.specs.Prelude.{◌/◌, IfSome, flat_map, slice_get, map}
+use Rattle.std.proofs.Common.{◌≡◌, ℕ, suc, ◌<◌, Option, Some, None, List, [], ◌∷◌, refl, sym, ap, subst, arith}
+use Rattle.std.specs.Prelude.{◌/◌, IfSome, flat_map, slice_get}
 use Rattle.std.specs.List.{All}
-use Rattle.std.specs.Option.{option_map}
 use Rattle.std.proofs.lemmas.List.Elements.{All-nil, All-cons, All-append}
 use Rattle.hv_word.specs.Storage.{page_count}
 use Rattle.hv_map.specs.Item.{Item}
@@ -13,7 +12,7 @@ use Rattle.hv_nest.specs.Move.{Move, last_of}
 use Rattle.hv_nest.specs.Watched.{no_tally, tally_of, foot, last_block}
 use Rattle.hv_whole.proofs.Roots.{run_long}
 use Rattle.hv_run.proofs.Runs.{run_harts}
-use Rattle.hv_run.specs.Record.{WatchOf, WatchTold, told_by, told_at, record_of}
+use Rattle.hv_run.specs.Record.{WatchOf, told_by, told_at, record_of}
 use Rattle.hv_run.specs.Stands.{EachWatch, IsPinned, IsWatchable, CanWatch}
 use Rattle.hv_report.specs.Report.{IsThere, AreThere}
 
@@ -23,7 +22,7 @@ block_of_last P [] each = tt
 block_of_last P (x ∷ []) each = each 0 x refl
 block_of_last P (x ∷ (y ∷ ys)) each = block_of_last P (y ∷ ys) (λ i z is. each (suc i) z is)
 
-block_inside : (S path : List ℕ) (items : List Item) → pinned S path ≡ Some items → IfSome (last_block items) (λ g. g < page_count S)
+pub block_inside : (S path : List ℕ) (items : List Item) → pinned S path ≡ Some items → IfSome (last_block items) (λ g. g < page_count S)
 block_inside S path items is = block_of_last (λ g. g < page_count S) items (λ i x at. (pinned_fits S items i x (pinned_own S path items is) at).block)
 
 module _ (start : State) (moves : List Move) where

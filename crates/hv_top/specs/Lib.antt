@@ -2,5 +2,9 @@ pub mod Output
 pub mod Answer
 pub mod Asm
 pub mod Dis
+pub mod Shown
 pub mod Run
+pub mod Check
+pub mod Debug
+pub mod Gen
 pub mod Commands

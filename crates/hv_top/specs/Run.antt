@@ -15,6 +15,7 @@ use Rattle.hv_run.specs.Promises.{AreBareRuns, AreRouted}
 use Rattle.hv_run.specs.Record.{Told, WatchOf, record_of, schedule}
 use Rattle.hv_run.specs.Stands.{watches_of}
 use Rattle.hv_top.specs.Output.{Output, Text, refusal}
+use Rattle.hv_top.specs.Shown.{AreShown}
 
 -- why a line of a job is refused
 abbrev pub job_kind_text : JobKind → List ℕ
@@ -75,10 +76,11 @@ unfoldable pub run_output : List ℕ → Output
 run_output text = parsed_output (job_of text)
 
 -- What is promised of a start that is played by these moves: a watched machine that stands apart at the start is at each
--- moment, up to the first touch, a bare machine that runs alone; and each fault that is told reached the first level that
--- refuses.
+-- moment, up to the first touch, a bare machine that runs alone, and the program shows it; and each fault that is told reached
+-- the first level that refuses.
 pub record IsKept (moves : List Move) (start : Start) : Type 0 where
   pub guests : AreBareRuns (state_of start) moves (watches_of start.plan.watches)
+  pub shown : AreShown (state_of start) moves (watches_of start.plan.watches)
   pub routed : AreRouted (state_of start) moves (told_of moves start).kept
 
 abbrev pub IsKeptOf : List Move → Result Start (ℕ × BuildKind) → Type 0

@@ -1,13 +1,16 @@
 //! What an input is answered.
 
-ghost use Rattle.std.specs.Prelude.{◌≡◌, ◌≤◌, length, IfOk, OnOk};
+ghost use Rattle.std.specs.Prelude.{◌≡◌, ◌≤◌, false, length, IfOk, OnOk};
 ghost use Rattle.hv_io.specs.declared.TheConstants.{INPUT_LIMIT};
 ghost use Rattle.hv_top.specs.Answer.{output_in};
-ghost use Rattle.hv_top.specs.Commands.{IsPromised, output_of};
+ghost use Rattle.hv_top.specs.Commands.{IsPromised, output_of, reads_input};
 ghost use Rattle.hv_top.specs.Output.{Text, refusal};
 
 use crate::asm::assembled;
+use crate::check::checked;
+use crate::debugging::debugged;
 use crate::dis::disassembled;
+use crate::generating::generated;
 use crate::running::reported;
 use hv_report::{put, put_number};
 use hv_words::Command;
@@ -26,17 +29,22 @@ pub fn answer_to(alloc: Global, command: Command, input: &[u8]) -> Result<Answer
     requires { length input.now ≤ INPUT_LIMIT }
     ensures output { IfOk result (λ answer. output_in answer ≡ output_of command input.now) }
     ensures promised { OnOk result (IsPromised command input.now) }
+    ensures accepted { IfOk result (λ answer. reads_input command ≡ false → answer.refused ≡ false) }
 {
     match command {
         Command::Run { plain: _ } => reported(alloc, input),
+        Command::Check => checked(alloc, input),
         Command::Asm => assembled(alloc, input),
         Command::Dis => disassembled(alloc, input),
+        Command::Debug => debugged(alloc, input),
+        Command::Gen { number } => generated(alloc, number),
     }
 }
 
 /// The text of a command.
 pub fn written(text: Vec<u8>) -> Answer
-    ensures { output_in result ≡ Text text.items }
+    ensures output { output_in result ≡ Text text.items }
+    ensures accepted { result.refused ≡ false }
 {
     Answer {
         text,

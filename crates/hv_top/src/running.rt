@@ -10,11 +10,10 @@ ghost use Rattle.hv_top.specs.Answer.{output_in};
 ghost use Rattle.hv_top.specs.Run.{IsKept, JobIsKept, TextIsKept, build_kind_text as build_kind_text_of, job_kind_text as job_kind_text_of, job_output, report_on, run_output};
 
 use crate::answer::{Answer, refused, written};
+use crate::playing::play_out;
 use hv_job::{Job, JobEnd, JobKind, parse_job};
 use hv_load::{BuildEnd, BuildKind, Start, build};
-use hv_nest::Plain;
 use hv_report::report;
-use hv_run::play;
 use std::alloc::{AllocError, Global};
 
 /// The report on a job, or the refusal of the first line that is refused: in its text, or else when it is built.
@@ -56,19 +55,12 @@ fn told(alloc: Global, job: &Job, start: Start) -> Result<Vec<u8>, AllocError>
     ensures text { IfOk result (λ text. text.items ≡ report_on (schedule job.now.recording) start) }
     ensures kept { OnOk result (IsKept (schedule job.now.recording) start) }
 {
-    let Start { store, harts, plan } = start;
-    let mut plain = Plain::new(store, harts);
-    let told = play(
-        alloc,
-        &mut plain,
-        job.recording.events(),
-        plan.watches.as_slice(),
-    )?;
-    report(alloc, &mut plain, &told, &plan)
+    let mut end = play_out(alloc, job, start)?;
+    report(alloc, &mut end.plain, &end.record, &end.plan)
 }
 
-// Why a line of a job is refused.
-fn job_kind_text(kind: JobKind) -> &'static [u8]
+/// Why a line of a job is refused.
+pub fn job_kind_text(kind: JobKind) -> &'static [u8]
     ensures { result.now ≡ job_kind_text_of kind }
 {
     match kind {
@@ -90,8 +82,8 @@ fn job_kind_text(kind: JobKind) -> &'static [u8]
     }
 }
 
-// Why a directive can't be done.
-fn build_kind_text(kind: BuildKind) -> &'static [u8]
+/// Why a directive can't be done.
+pub fn build_kind_text(kind: BuildKind) -> &'static [u8]
     ensures { result.now ≡ build_kind_text_of kind }
 {
     match kind {

@@ -4,7 +4,7 @@ ghost use Rattle.std.specs.Prelude.{◌<◌};
 
 use super::*;
 use crate::refusals::REFUSALS;
-use crate::rows::{JOBS, KERNELS};
+use crate::rows::{JOBS, KERNELS, Row};
 use hv_io::{INPUT_LIMIT, MemSource};
 use std::alloc::AllocError;
 use std::test::Fail;
@@ -194,6 +194,156 @@ fn texts_are_assembled_and_words_disassembled(rt: HostRuntime) -> Result<(), Fai
     ];
     for (line, input, status, text) in rows {
         let done = ends(rt.alloc(), line, input, status, text)?;
+        assert!(rt; done, "at {input:?}");
+    }
+    Ok(())
+}
+
+/// Whether what is checked of the watches of a job is what the report on it has of them.
+fn is_alike_alone(alloc: Global, row: &Row) -> Result<bool, Fail> {
+    let (_, watches) = row.text.split_once("\nwatch ").ok_or("a watch")?;
+    let text = format!(in alloc; "checked\nwatch {watches}")?;
+    Ok(ends(alloc, "check", row.input, DONE, &text)?)
+}
+
+#[test]
+fn kernels_in_towers_run_alike_alone(rt: HostRuntime) -> Result<(), Fail> {
+    for row in JOBS.iter().skip(5).take(4) {
+        let alike = is_alike_alone(rt.alloc(), row)?;
+        let shows = row.shows;
+        assert!(rt; alike, "at {shows}");
+    }
+    Ok(())
+}
+
+#[test]
+fn guests_with_interrupts_run_alike_alone(rt: HostRuntime) -> Result<(), Fail> {
+    let line = is_alike_alone(rt.alloc(), &JOBS[21])?;
+    let kernels = is_alike_alone(rt.alloc(), &KERNELS)?;
+    assert!(rt; line && kernels);
+    Ok(())
+}
+
+#[test]
+fn a_touched_machine_does_not_run_alone(rt: HostRuntime) -> Result<(), Fail> {
+    let text = "checked\nwatch 0 1 one=yes apart=yes touched=yes\ntwin none\n";
+    let done = ends(rt.alloc(), "check", JOBS[13].input, DONE, text)?;
+    assert!(rt; done);
+    Ok(())
+}
+
+#[test]
+fn no_machine_runs_alone_where_changes_of_lines_are_forgotten(rt: HostRuntime) -> Result<(), Fail> {
+    let mut input = String::from_str(rt.alloc(), "job 1\nstorage 1\n")?;
+    for _ in 0..512 {
+        input.push_str("lines 0 0x80\nlines 0 0\n")?;
+    }
+    input.push_str("lines 0 0x80\n")?;
+    input.push_str("watch 0 root\n")?;
+    let text = "checked\nwatch 0 - one=yes apart=yes touched=no\ntwin none\n";
+    let done = ends(rt.alloc(), "check", &input, DONE, text)?;
+    assert!(rt; done);
+    Ok(())
+}
+
+/// Whether `gen` with its number writes this and reads nothing.
+fn sums(alloc: Global, line: &str, text: &str) -> Result<bool, Fail> {
+    let words = words_of(alloc, line)?;
+    let mut source = source_of(alloc, "a byte", 4096, &[])?;
+    let mut sink = sink_of(alloc, 4096, &[])?;
+    let answer = virtualize(alloc, &words, &mut source, &mut sink);
+    let left = read_all(alloc, &mut source).ok().ok_or("no bytes")?;
+    Ok(answer == DONE && sink.held() == text.as_bytes() && left.as_slice() == b"a byte".as_slice())
+}
+
+#[test]
+fn a_job_of_a_number_is_summed_at_each_depth(rt: HostRuntime) -> Result<(), Fail> {
+    let paths = [
+        "-",
+        "1",
+        "1.1",
+        "1.1.1",
+        "1.1.1.1",
+        "1.1.1.1.1",
+        "1.1.1.1.1.1",
+        "1.1.1.1.1.1.1",
+        "1.1.1.1.1.1.1.1",
+    ];
+    for (number, path) in paths.iter().enumerate() {
+        let line = format!(in rt.alloc(); "gen {number}")?;
+        let steps = 200_000 + 3 * number;
+        let text = format!(in rt.alloc();
+            "gen {number} depth {number}
+ran {steps} faults 0 recalls 0
+hart 0 {path}
+watch 0 {path} one=yes apart=yes touched=no
+count 200000
+sum 015d1457
+"
+        )?;
+        let done = sums(rt.alloc(), &line, &text)?;
+        assert!(rt; done, "at {line}");
+    }
+    Ok(())
+}
+
+#[test]
+fn a_debugger_writes_over_the_commands_of_a_job(rt: HostRuntime) -> Result<(), Fail> {
+    let rows = [
+        (JOBS[0].input, DONE, ""),
+        (REFUSALS[0].input, REFUSED, "refused line 1: header\n"),
+        (
+            "job 1
+storage 1
+word root 0 0x00500093
+turn 0 1
+watch 0 root
+debug
+step 1
+regs root
+",
+            DONE,
+            "> step 1
+at 1
+> regs root
+pc 00000004 mode 3 next 0
+x0 00000000 00000005 00000000 00000000 00000000 00000000 00000000 00000000
+x8 00000000 00000000 00000000 00000000 00000000 00000000 00000000 00000000
+x16 00000000 00000000 00000000 00000000 00000000 00000000 00000000 00000000
+x24 00000000 00000000 00000000 00000000 00000000 00000000 00000000 00000000
+m 00000000 00000000 00000000 00000000 00000000 00000000 00000000 00000000 00000000 00000000
+s 00000000 00000000 00000000 00000000 00000000 00000000
+",
+        ),
+        (
+            "job 1
+storage 1
+word root 0 0x00500093
+turn 0 3
+watch 0 root
+debug
+break root 4
+step 3
+",
+            DONE,
+            "> break root 4
+ok
+> step 3
+at 1 break
+",
+        ),
+        (
+            "job 1
+storage 1
+debug
+regs kid
+",
+            REFUSED,
+            "refused line 4: unknown\n",
+        ),
+    ];
+    for (input, status, text) in rows {
+        let done = ends(rt.alloc(), "debug", input, status, text)?;
         assert!(rt; done, "at {input:?}");
     }
     Ok(())

@@ -1,8 +1,9 @@
 -- The command words: which lists of words name a command.
-use Rattle.std.specs.Prelude.{ℕ, Bool, true, false, ◌&&◌, if◌then◌else◌, List, [], ◌∷◌, Result, Ok, Err, codes}
-use Rattle.std.specs.Str.{bytes_eq}
+use Rattle.std.specs.Prelude.{ℕ, ◌^◌, Bool, true, false, ◌&&◌, ◌==◌, nat_lt, if◌then◌else◌, List, [], ◌∷◌, length, Option, Some, None, Result, Ok, Err, codes}
+use Rattle.std.specs.Str.{all_ascii_digits, bytes_eq}
+use Rattle.std.specs.Str.Parse.{digits_value}
 use Rattle.hv_words.specs.declared.Command.{Command}
-use Rattle.hv_words.specs.declared.Command.TheVariants.{Run, Asm, Dis}
+use Rattle.hv_words.specs.declared.Command.TheVariants.{Run, Check, Asm, Dis, Debug, Gen}
 use Rattle.hv_words.specs.declared.Usage.{Usage}
 
 -- a list of words, and the command that it names
@@ -10,12 +11,15 @@ pub record Row : Type 0 where
   pub words : List (List ℕ)
   pub command : Command
 
+-- the commands without a number
 abbrev pub table : List Row
 table =
     record { words = codes "run" ∷ []; command = Run false } ∷
     record { words = codes "run" ∷ codes "--plain" ∷ []; command = Run true } ∷
+    record { words = codes "check" ∷ []; command = Check } ∷
     record { words = codes "asm" ∷ []; command = Asm } ∷
     record { words = codes "dis" ∷ []; command = Dis } ∷
+    record { words = codes "debug" ∷ []; command = Debug } ∷
     []
 
 -- as many words, each the same
@@ -28,9 +32,37 @@ same_words (word ∷ words) (other ∷ others) = bytes_eq word other && same_wor
 abbrev pub usage : Usage
 usage = record {}
 
--- the command of the row that has these words
+-- more than one digit, of which the first is 0
+abbrev pub has_leading_zero : List ℕ → Bool
+has_leading_zero [] = false
+has_leading_zero (digit ∷ []) = false
+has_leading_zero (digit ∷ next ∷ digits) = digit == 48
+
+-- the number below 2 ^ 32 that decimal digits spell, of which there is at least one
+abbrev pub digits_number : List ℕ → Option ℕ
+digits_number text =
+    if (nat_lt 0 (length text) && all_ascii_digits text) && nat_lt (digits_value 10 text) (2 ^ 32)
+    then Some (digits_value 10 text)
+    else None
+
+-- the number that a word is: `0`, or such digits without a leading zero
+abbrev pub number_of : List ℕ → Option ℕ
+number_of word = if has_leading_zero word then None else digits_number word
+
+abbrev pub generating : Option ℕ → Result Command Usage
+generating (Some number) = Ok (Gen number)
+generating None = Err usage
+
+-- the one command with a number, `gen N`
+abbrev pub numbered : List (List ℕ) → Result Command Usage
+numbered [] = Err usage
+numbered (word ∷ []) = Err usage
+numbered (word ∷ number ∷ []) = if bytes_eq word (codes "gen") then generating (number_of number) else Err usage
+numbered (word ∷ number ∷ further ∷ words) = Err usage
+
+-- the command of the row that has these words, or that with a number
 abbrev pub found_in : List Row → List (List ℕ) → Result Command Usage
-found_in [] words = Err usage
+found_in [] words = numbered words
 found_in (row ∷ rows) words = if same_words words row.words then Ok row.command else found_in rows words
 
 -- the command that these words name

@@ -11,20 +11,28 @@ fn parsed(alloc: Global, words: &[&str]) -> Result<Option<Command>, clap::Error>
         .long("plain")
         .action(ArgAction::SetTrue);
     let run = clap::Command::new(alloc, "run").arg(plain)?;
-    let asm = clap::Command::new(alloc, "asm");
-    let dis = clap::Command::new(alloc, "dis");
+    let number = Arg::new(alloc, "number").required(true);
+    let generate = clap::Command::new(alloc, "gen").arg(number)?;
     let program = clap::Command::new(alloc, "virtualizer")
         .no_binary_name(true)
         .subcommand(run)?
-        .subcommand(asm)?
-        .subcommand(dis)?;
+        .subcommand(clap::Command::new(alloc, "check"))?
+        .subcommand(clap::Command::new(alloc, "asm"))?
+        .subcommand(clap::Command::new(alloc, "dis"))?
+        .subcommand(clap::Command::new(alloc, "debug"))?
+        .subcommand(generate)?;
     let matches = program.try_get_matches_from(words)?;
     Ok(match matches.subcommand() {
         Some(("run", inner)) => Some(Command::Run {
             plain: inner.get_flag("plain"),
         }),
+        Some(("check", _)) => Some(Command::Check),
         Some(("asm", _)) => Some(Command::Asm),
         Some(("dis", _)) => Some(Command::Dis),
+        Some(("debug", _)) => Some(Command::Debug),
+        Some(("gen", inner)) => inner
+            .get_one::<u32>("number")
+            .map(|number| Command::Gen { number }),
         _ => None,
     })
 }
@@ -40,7 +48,17 @@ fn owned(alloc: Global, words: &[&str]) -> Result<Vec<String>, AllocError> {
 #[test]
 fn the_rows_are_read_as_a_parser_reads_them(rt: HostRuntime) -> Result<(), Fail> {
     let alloc = rt.alloc();
-    let rows: [&[&str]; 4] = [&["run"], &["run", "--plain"], &["asm"], &["dis"]];
+    let rows: [&[&str]; 9] = [
+        &["run"],
+        &["run", "--plain"],
+        &["check"],
+        &["asm"],
+        &["dis"],
+        &["debug"],
+        &["gen", "0"],
+        &["gen", "5"],
+        &["gen", "4294967295"],
+    ];
     for row in rows {
         let command = parsed(alloc, row)?.ok_or("a command")?;
         let words = owned(alloc, row)?;

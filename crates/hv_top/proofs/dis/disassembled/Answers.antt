@@ -32,5 +32,5 @@ returns-in_default c =
 
 pub returns : goal.returns
 returns c =
-    c.written.ensures
+    c.written.ensures.output
     ∙ lines_end c.loop-rest.number c.loop-rest.text.items c.loop-rest.rest.now _ (search rules) c.loop-rest.invariant.told

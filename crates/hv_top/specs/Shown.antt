@@ -1,0 +1,39 @@
+-- What the program prints of a watched machine beside the bare machine that runs alone.
+use Rattle.std.specs.Prelude.{◌≡◌, ℕ, ◌<◌, ◌≤◌, true, false, List, ◌++◌, length, Some, None, codes}
+use Rattle.hv_map.specs.Item.{Item}
+use Rattle.hv_map.specs.Chain.{pinned}
+use Rattle.hv_map.specs.Apart.{is_one, is_apart}
+use Rattle.hv_nest.specs.State.{State}
+use Rattle.hv_nest.specs.Move.{Move, last_of}
+use Rattle.hv_nest.specs.Watched.{Tally, no_tally, tally_of, foot, last_block}
+use Rattle.hv_report.specs.Report.{machine_words, watch_line, watch_text}
+use Rattle.hv_report.specs.Check.{checked_watch}
+use Rattle.hv_run.specs.Promises.{twin_after}
+use Rattle.hv_run.specs.Record.{WatchOf, kept_limit, told_by}
+use Rattle.hv_run.specs.Text.{line}
+use Rattle.hv_run.specs.Stands.{EachWatch}
+
+-- The words that the report has of the watched machine are those of the bare machine that began with what it saw, and ran
+-- alone with all changes of lines. Where all of these are kept, `check` writes the same text of the watch as the report has;
+-- where they are more, it says that no bare machine was run.
+pub record IsShownBy (start last : State) (w : WatchOf) (items : List Item) (t : Tally) : Type 0 where
+  pub run : machine_words last w.hart (last_block items) ≡ machine_words (twin_after start w items t) 0 None
+  pub check : length t.changes ≤ kept_limit → checked_watch start (told_by w start items t) ≡ watch_text last (told_by w start items t)
+  pub none : kept_limit < length t.changes → checked_watch start (told_by w start items t) ≡ watch_line (told_by w start items t) ++ line (codes "twin none")
+
+-- what a watch has told at the end of these moves
+abbrev pub tally_over : State → List Move → WatchOf → List Item → Tally
+tally_over start moves w items = tally_of w.hart w.path items (foot start.storage items) start moves no_tally
+
+-- so it is for a watched machine whose pages were one-to-one and lay apart at the start, if no other machine touched it
+abbrev pub IsShown : State → List Move → WatchOf → Type 0
+IsShown start moves w =
+    (items : List Item)
+    → pinned start.storage w.path ≡ Some items
+    → is_one start.storage items ≡ true
+    → is_apart start.storage items ≡ true
+    → (tally_over start moves w items).touched ≡ false
+    → IsShownBy start (last_of start moves) w items (tally_over start moves w items)
+
+abbrev pub AreShown : State → List Move → List WatchOf → Type 0
+AreShown start moves watches = EachWatch (IsShown start moves) watches

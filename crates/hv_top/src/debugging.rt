@@ -1,0 +1,59 @@
+//! The command `debug`.
+
+ghost use Rattle.std.specs.Prelude.{◌≡◌, ◌≤◌, Ok, length, IfOk};
+ghost use Rattle.hv_io.specs.declared.TheConstants.{INPUT_LIMIT};
+ghost use Rattle.hv_job.specs.IsJob.{IsJob};
+ghost use Rattle.hv_load.specs.Build.{build_of};
+ghost use Rattle.hv_load.specs.Ready.{IsReady};
+ghost use Rattle.hv_top.specs.Answer.{output_in};
+ghost use Rattle.hv_top.specs.Debug.{debug_output, session_output, transcript_on};
+
+use crate::answer::{Answer, refused, written};
+use crate::running::{build_kind_text, job_kind_text};
+use hv_debug::transcript;
+use hv_job::{Job, JobEnd, parse_job};
+use hv_load::{BuildEnd, Start, build};
+use hv_nest::Plain;
+use std::alloc::{AllocError, Global};
+
+/// What a debugger writes over the commands of a job, or the refusal of the first line that is refused: in its text, or else
+/// when it is built.
+#[tactic(auto, unfolding(crate::specs::Debug::debug_output))]
+pub fn debugged(alloc: Global, input: &[u8]) -> Result<Answer, AllocError>
+    requires { length input.now ≤ INPUT_LIMIT }
+    ensures { IfOk result (λ answer. output_in answer ≡ debug_output input.now) }
+{
+    match parse_job(alloc, input) {
+        Ok(job) => commanded(alloc, &job),
+        Err(JobEnd::JobFault { line, kind }) => refused(alloc, line, job_kind_text(kind)),
+        Err(JobEnd::Memory) => Err(AllocError),
+    }
+}
+
+// What a debugger writes over the commands of a job, or the refusal of the first line that can't be built.
+#[tactic(auto, unfolding(crate::specs::Debug::session_output))]
+fn commanded(alloc: Global, job: &Job) -> Result<Answer, AllocError>
+    requires { IsJob job.now }
+    ensures { IfOk result (λ answer. output_in answer ≡ session_output job.now) }
+{
+    match build(alloc, job) {
+        Ok(start) => {
+            let text = session(alloc, job, start)?;
+            Ok(written(text))
+        }
+        Err(BuildEnd::BuildFault { line, kind }) => refused(alloc, line, build_kind_text(kind)),
+        Err(BuildEnd::Memory) => Err(AllocError),
+    }
+}
+
+// What a debugger writes over the commands of a job from its start.
+fn session(alloc: Global, job: &Job, start: Start) -> Result<Vec<u8>, AllocError>
+    requires job { IsJob job.now }
+    requires built { build_of job.now ≡ Ok start }
+    requires ready { IsReady job.now start }
+    ensures { IfOk result (λ text. text.items ≡ transcript_on job.now start) }
+{
+    let Start { store, harts, plan } = start;
+    let mut plain = Plain::new(store, harts);
+    transcript(alloc, &mut plain, job, &plan)
+}

@@ -2,7 +2,6 @@
 
 ghost use Rattle.std.specs.Prelude.{◌≡◌, ◌++◌, ◌≤◌, ◌<◌, OnOk, length, take};
 ghost use Rattle.hv_run.specs.Play.{told_of};
-ghost use Rattle.hv_run.specs.Text.{hex8, hex_digit as hex_digit_of};
 ghost use Rattle.hv_map.specs.Chain.{map_along};
 ghost use Rattle.hv_report.specs.Report.{faults_text, hart_text};
 ghost use Rattle.hv_debug.specs.Answers.{at_line, echo_line, end_text, map_text, mem_text, page_trail, pages_text, regs_text, stop_text, trail_line, trail_text, word_text};
@@ -14,10 +13,9 @@ use hv_job::Name;
 use hv_load::Named;
 use hv_map::{Chain, Path, Way, trail};
 use hv_nest::Nested;
-use hv_report::{machine_words, put, put_hart, put_number};
+use hv_report::{machine_words, put, put_hart, put_hex8, put_number};
 use hv_run::{Play, fault_line, register_lines};
 use hv_store::Store;
-use hv_word::field;
 use std::alloc::{AllocError, Global};
 
 /// Appends the words of a command.
@@ -197,34 +195,4 @@ pub(crate) fn put_faults(alloc: Global, out: &mut Vec<u8>, play: &Play) -> Resul
         put(out, &line)?;
     }
     Ok(())
-}
-
-// Appends a word as eight digits.
-#[tactic(auto, unfolding(hv_run::specs::Text::hex8))]
-fn put_hex8(out: &mut Vec<u8>, word: u32) -> Result<(), AllocError>
-    ensures { OnOk result (out.new.items ≡ out.old.items ++ hex8 word) }
-{
-    let digits = [
-        hex_digit(field::<28, 4>(word)),
-        hex_digit(field::<24, 4>(word)),
-        hex_digit(field::<20, 4>(word)),
-        hex_digit(field::<16, 4>(word)),
-        hex_digit(field::<12, 4>(word)),
-        hex_digit(field::<8, 4>(word)),
-        hex_digit(field::<4, 4>(word)),
-        hex_digit(field::<0, 4>(word)),
-    ];
-    put(out, &digits)
-}
-
-// A digit, 0 to 9 and a to f.
-fn hex_digit(value: u32) -> u8
-    requires { value < 16 }
-    ensures { result ≡ hex_digit_of value }
-{
-    if value < 10 {
-        b'0' + value as u8
-    } else {
-        b'a' - 10 + value as u8
-    }
 }

@@ -1,6 +1,6 @@
 -- The harts of the events of a job that can be built are there.
-use Rattle.std.proofs.Common.{◌≡◌, ℕ, ◌<◌, Bool, true, false, Option, Some, None, Result, Ok, Err, List, [], ◌∷◌, length, refl, sym, ◌∙◌, subst, arith, ltb-true}
-use Rattle.std.specs.Prelude.{nat_lt, if◌then◌else◌, map, filter_map, replicate}
+use Rattle.std.proofs.Common.{◌≡◌, ℕ, ◌<◌, Bool, true, false, Result, Ok, Err, List, [], ◌∷◌, length, refl, sym, ◌∙◌, subst, arith, ltb-true}
+use Rattle.std.specs.Prelude.{nat_lt, if◌then◌else◌, map, filter_map}
 use Rattle.std.specs.List.{All}
 use Rattle.std.proofs.lemmas.List.{length-replicate}
 use Rattle.std.proofs.lemmas.List.Elements.{All-nil, All-cons}

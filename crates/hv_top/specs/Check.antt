@@ -1,42 +1,28 @@
 -- A job that is built and played, and the bare machines beside its watched ones.
-use Rattle.std.specs.Prelude.{◌≡◌, ℕ, ◌^◌, ◌<◌, ◌≤◌, All, List, [], length, Option, Some, None, Result, Ok, Err, IsOk, bit_and}
+use Rattle.std.specs.Prelude.{◌≡◌, ℕ, ◌^◌, ◌<◌, ◌≤◌, All, List, [], length, Option, Some, None, Result, Ok, Err, bit_and}
 use Rattle.hv_cpu.specs.Lines.{lines_mask}
-use Rattle.hv_job.specs.JobOf.{job_of}
 use Rattle.hv_job.specs.declared.job.Job.{Job}
-use Rattle.hv_job.specs.declared.ends.JobKind.{JobKind}
 use Rattle.hv_load.specs.Build.{build_of}
 use Rattle.hv_load.specs.declared.ends.BuildKind.{BuildKind}
 use Rattle.hv_load.specs.declared.start.Start.{Start}
 use Rattle.hv_map.specs.Item.{Item}
 use Rattle.hv_map.specs.Chain.{map_along, pinned}
 use Rattle.hv_nest.specs.State.{State}
-use Rattle.hv_nest.specs.Move.{Move}
 use Rattle.hv_nest.specs.Watched.{last_block}
 use Rattle.hv_report.specs.Check.{check_of}
 use Rattle.hv_run.specs.Record.{WatchTold, schedule}
 use Rattle.hv_twin.specs.Twin.{NeverFalls}
-use Rattle.hv_top.specs.Output.{Output, Text, refusal}
-use Rattle.hv_top.specs.Run.{build_kind_text, job_kind_text, state_of, told_of}
+use Rattle.hv_top.specs.Jobs.{told_output}
+use Rattle.hv_top.specs.Output.{Output}
+use Rattle.hv_top.specs.Run.{state_of, told_of}
 
--- the text about the watches of a start that is played by these moves
-abbrev pub check_on : List Move → Start → List ℕ
-check_on moves start = check_of (state_of start) (told_of moves start)
-
-abbrev pub built_check : List Move → Result Start (ℕ × BuildKind) → Output
-built_check moves (Ok start) = Text (check_on moves start)
-built_check moves (Err (number, kind)) = refusal number (build_kind_text kind)
-
--- the text about the watches of a job, which is built and played to the end of its schedule
-unfoldable pub job_check : Job → Output
-job_check job = built_check (schedule job.recording) (build_of job)
-
-abbrev pub parsed_check : Result Job (ℕ × JobKind) → Output
-parsed_check (Ok job) = job_check job
-parsed_check (Err (number, kind)) = refusal number (job_kind_text kind)
+-- the text about the watches of the start of a job, which is played to the end of the job's schedule
+abbrev pub check_on : Job → Start → List ℕ
+check_on job start = check_of (state_of start) (told_of (schedule job.recording) start)
 
 -- what `check` writes for a text
 unfoldable pub check_output : List ℕ → Output
-check_output text = parsed_check (job_of text)
+check_output text = told_output check_on text
 
 -- the state at the start of a job; nothing where it can't be built
 abbrev pub built_state : Result Start (ℕ × BuildKind) → State

@@ -3,7 +3,9 @@ pub mod Answer
 pub mod Asm
 pub mod Dis
 pub mod Shown
+pub mod Jobs
 pub mod Run
+pub mod Opening
 pub mod Check
 pub mod Debug
 pub mod Gen

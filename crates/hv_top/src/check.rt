@@ -1,26 +1,28 @@
 //! The command `check`.
 
 ghost use Rattle.std.specs.Option.{option_map};
-ghost use Rattle.std.specs.Prelude.{◌≡◌, ◌<◌, ◌≤◌, ◌++◌, All, Some, length, IfOk, IfSome, IsOk, IsSome, OnOk};
+ghost use Rattle.std.specs.Prelude.{◌≡◌, ◌<◌, ◌≤◌, ◌++◌, All, Ok, Some, length, IfOk, IfSome, IsOk, IsSome, OnOk};
 ghost use Rattle.hv_block.specs.Block.{block_of, regs_at};
 ghost use Rattle.hv_io.specs.declared.TheConstants.{INPUT_LIMIT};
 ghost use Rattle.hv_job.specs.IsJob.{IsJob};
 ghost use Rattle.hv_load.specs.Build.{build_of};
+ghost use Rattle.hv_load.specs.Ready.{IsReady};
 ghost use Rattle.hv_map.specs.Chain.{map_of};
 ghost use Rattle.hv_map.specs.Seen.{seen as seen_of};
 ghost use Rattle.hv_nest.specs.Kinds.{NextBelow};
 ghost use Rattle.hv_report.specs.Check.{checked_watch, checked_watches, twin_words as twin_words_of, watched_regs};
+ghost use Rattle.hv_run.specs.Record.{schedule};
 ghost use Rattle.hv_top.specs.Answer.{output_in};
-ghost use Rattle.hv_top.specs.Check.{IsRow, check_output, job_check, start_state};
-ghost use Rattle.hv_top.specs.Run.{JobIsKept, TextIsKept, state_of};
+ghost use Rattle.hv_top.specs.Check.{IsRow, check_on, check_output, start_state};
+ghost use Rattle.hv_top.specs.Run.{IsKept, TextIsKept, state_of};
 ghost use Rattle.hv_word.specs.Storage.{page_count};
 
-use crate::answer::{Answer, refused, written};
+use crate::answer::{Answer, written};
+use crate::opening::{Opening, opened};
 use crate::playing::play_out;
-use crate::running::{build_kind_text, job_kind_text};
 use hv_block::read_block;
 use hv_cpu::Cpu;
-use hv_job::{Job, JobEnd, parse_job};
+use hv_job::Job;
 use hv_load::{BuildEnd, Start, build};
 use hv_map::pin;
 use hv_report::{has_twin, put, put_checked};
@@ -31,38 +33,33 @@ use std::alloc::{AllocError, Global};
 
 /// For each watch of a job the bare machine that began with what the watched one saw, and ran alone; or the refusal of the
 /// first line that is refused: in its text, or else when it is built.
-#[tactic(auto, unfolding(crate::specs::Check::check_output, crate::specs::Run::TextIsKept))]
+#[tactic(auto, unfolding(crate::specs::Check::check_output, crate::specs::Run::TextIsKept, crate::specs::Run::JobIsKept))]
 pub fn checked(alloc: Global, input: &[u8]) -> Result<Answer, AllocError>
     requires { length input.now ≤ INPUT_LIMIT }
     ensures output { IfOk result (λ answer. output_in answer ≡ check_output input.now) }
     ensures kept { OnOk result (TextIsKept input.now) }
 {
-    match parse_job(alloc, input) {
-        Ok(job) => compared(alloc, &job),
-        Err(JobEnd::JobFault { line, kind }) => refused(alloc, line, job_kind_text(kind)),
-        Err(JobEnd::Memory) => Err(AllocError),
+    match opened(alloc, input)? {
+        Opening::Ready { job, start } => Ok(written(compared(alloc, &job, start)?)),
+        Opening::Refused(answer) => Ok(answer),
     }
 }
 
-// The same for a job, or the refusal of the first line that can't be built.
-#[tactic(auto, unfolding(crate::specs::Check::job_check, crate::specs::Run::JobIsKept, crate::specs::Check::start_state))]
-fn compared(alloc: Global, job: &Job) -> Result<Answer, AllocError>
-    requires { IsJob job.now }
-    ensures output { IfOk result (λ answer. output_in answer ≡ job_check job.now) }
-    ensures kept { OnOk result (JobIsKept job.now) }
+// For each watch of the start of a job, which is played to the end of the schedule, the bare machine beside it.
+#[tactic(auto, unfolding(crate::specs::Check::start_state))]
+fn compared(alloc: Global, job: &Job, start: Start) -> Result<Vec<u8>, AllocError>
+    requires job { IsJob job.now }
+    requires built { build_of job.now ≡ Ok start }
+    requires ready { IsReady job.now start }
+    ensures text { IfOk result (λ text. text.items ≡ check_on job.now start) }
+    ensures kept { OnOk result (IsKept (schedule job.now.recording) start) }
 {
-    match build(alloc, job) {
-        Ok(start) => {
-            // What was played is let go: each bare machine begins with the job, built anew.
-            let record = play_out(alloc, job, start)?.record;
-            let mut text = Vec::new(alloc);
-            put(&mut text, b"checked\n")?;
-            put_watches(alloc, &mut text, job, record.watches.as_slice())?;
-            Ok(written(text))
-        }
-        Err(BuildEnd::BuildFault { line, kind }) => refused(alloc, line, build_kind_text(kind)),
-        Err(BuildEnd::Memory) => Err(AllocError),
-    }
+    // What was played is let go: each bare machine begins with the job, built anew.
+    let record = play_out(alloc, job, start)?.record;
+    let mut text = Vec::new(alloc);
+    put(&mut text, b"checked\n")?;
+    put_watches(alloc, &mut text, job, record.watches.as_slice())?;
+    Ok(text)
 }
 
 // Appends each watch, and the lines of the bare machine beside it.

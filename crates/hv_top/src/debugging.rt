@@ -6,13 +6,13 @@ ghost use Rattle.hv_job.specs.IsJob.{IsJob};
 ghost use Rattle.hv_load.specs.Build.{build_of};
 ghost use Rattle.hv_load.specs.Ready.{IsReady};
 ghost use Rattle.hv_top.specs.Answer.{output_in};
-ghost use Rattle.hv_top.specs.Debug.{debug_output, session_output, transcript_on};
+ghost use Rattle.hv_top.specs.Debug.{debug_output, transcript_on};
 
-use crate::answer::{Answer, refused, written};
-use crate::running::{build_kind_text, job_kind_text};
+use crate::answer::{Answer, written};
+use crate::opening::{Opening, opened};
 use hv_debug::transcript;
-use hv_job::{Job, JobEnd, parse_job};
-use hv_load::{BuildEnd, Start, build};
+use hv_job::Job;
+use hv_load::Start;
 use hv_nest::Plain;
 use std::alloc::{AllocError, Global};
 
@@ -23,26 +23,9 @@ pub fn debugged(alloc: Global, input: &[u8]) -> Result<Answer, AllocError>
     requires { length input.now ≤ INPUT_LIMIT }
     ensures { IfOk result (λ answer. output_in answer ≡ debug_output input.now) }
 {
-    match parse_job(alloc, input) {
-        Ok(job) => commanded(alloc, &job),
-        Err(JobEnd::JobFault { line, kind }) => refused(alloc, line, job_kind_text(kind)),
-        Err(JobEnd::Memory) => Err(AllocError),
-    }
-}
-
-// What a debugger writes over the commands of a job, or the refusal of the first line that can't be built.
-#[tactic(auto, unfolding(crate::specs::Debug::session_output))]
-fn commanded(alloc: Global, job: &Job) -> Result<Answer, AllocError>
-    requires { IsJob job.now }
-    ensures { IfOk result (λ answer. output_in answer ≡ session_output job.now) }
-{
-    match build(alloc, job) {
-        Ok(start) => {
-            let text = session(alloc, job, start)?;
-            Ok(written(text))
-        }
-        Err(BuildEnd::BuildFault { line, kind }) => refused(alloc, line, build_kind_text(kind)),
-        Err(BuildEnd::Memory) => Err(AllocError),
+    match opened(alloc, input)? {
+        Opening::Ready { job, start } => Ok(written(session(alloc, &job, start)?)),
+        Opening::Refused(answer) => Ok(answer),
     }
 }
 

@@ -41,7 +41,7 @@ fn summed(alloc: Global, number: u32, job: &Job, start: Start) -> Result<Vec<u8>
     requires job { IsJob job.now }
     requires built { build_of job.now ≡ Ok start }
     requires ready { IsReady job.now start }
-    ensures text { IfOk result (λ text. text.items ≡ summary_on number (schedule job.now.recording) start) }
+    ensures text { IfOk result (λ text. text.items ≡ summary_on number job.now start) }
     ensures kept { OnOk result (IsKept (schedule job.now.recording) start) }
 {
     let mut end = play_out(alloc, job, start)?;

@@ -16,6 +16,7 @@ mod check;
 mod debugging;
 mod dis;
 mod generating;
+mod opening;
 mod playing;
 #[cfg(test)]
 mod refusals;

@@ -1,0 +1,35 @@
+-- What a text is opened to.
+use Rattle.std.specs.Prelude.{◌≡◌, ℕ, List, Ok}
+use Rattle.hv_job.specs.IsJob.{IsJob}
+use Rattle.hv_job.specs.JobOf.{job_of}
+use Rattle.hv_job.specs.declared.job.Job.{Job}
+use Rattle.hv_load.specs.Build.{build_of}
+use Rattle.hv_load.specs.Ready.{IsReady}
+use Rattle.hv_load.specs.declared.start.Start.{Start}
+use Rattle.hv_top.specs.declared.answer.Answer.{Answer}
+use Rattle.hv_top.specs.declared.opening.Opening.{Opening}
+use Rattle.hv_top.specs.declared.opening.Opening.TheVariants.{Ready, Refused}
+use Rattle.hv_top.specs.Answer.{output_in}
+use Rattle.hv_top.specs.Jobs.{started_output, told_output}
+use Rattle.hv_top.specs.Output.{Output}
+use Rattle.hv_top.specs.Run.{JobIsKept, TextIsKept}
+
+-- the job is built to this start
+pub record IsBuilt (job : Job) (start : Start) : Type 0 where
+  pub limits : IsJob job
+  pub built : build_of job ≡ Ok start
+  pub ready : IsReady job start
+
+-- this answer is what is written, whatever is told of a job and its start
+abbrev pub IsWritten : Answer → ((Job → Start → List ℕ) → Output) → Type 0
+IsWritten answer output = (tell : Job → Start → List ℕ) → output_in answer ≡ output tell
+
+-- the job with its start; or the refusal of it, with which nothing is promised
+abbrev pub IsStarting : Job → Opening → Type 0
+IsStarting job (Ready own start) = (own ≡ job) × IsBuilt job start
+IsStarting job (Refused answer) = IsWritten answer (λ tell. started_output tell job) × JobIsKept job
+
+-- the job that a text is with its start; or the refusal of the text, with which nothing is promised
+abbrev pub IsOpening : List ℕ → Opening → Type 0
+IsOpening text (Ready job start) = (job_of text ≡ Ok job) × IsBuilt job start
+IsOpening text (Refused answer) = IsWritten answer (λ tell. told_output tell text) × TextIsKept text

@@ -13,8 +13,8 @@ use hv_job::Name;
 use hv_load::Named;
 use hv_map::{Chain, Path, Way, trail};
 use hv_nest::Nested;
-use hv_report::{machine_words, put, put_hart, put_hex8, put_number};
-use hv_run::{Play, fault_line, register_lines};
+use hv_report::{machine_words, put_hart, put_number};
+use hv_run::{Play, fault_line, put, put_hex8, register_lines};
 use hv_store::Store;
 use std::alloc::{AllocError, Global};
 

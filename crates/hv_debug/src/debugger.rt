@@ -17,8 +17,7 @@ use hv_irq::Event;
 use hv_job::{DebugCommand, DebugLine, Name};
 use hv_load::Named;
 use hv_nest::Nested;
-use hv_report::put;
-use hv_run::Play;
+use hv_run::{Play, put};
 use std::alloc::{AllocError, Global};
 
 /// A debugger: how far it has played the schedule, its breakpoints, and what it has written.

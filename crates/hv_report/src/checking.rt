@@ -3,9 +3,8 @@
 ghost use Rattle.std.specs.Prelude.{◌≡◌, ◌++◌, OnOk};
 ghost use Rattle.hv_report.specs.Check.{checked_text, has_twin as has_twin_of};
 
-use crate::puts::put;
 use crate::reporting::put_watch_line;
-use hv_run::{WatchRow, machine_lines};
+use hv_run::{WatchRow, machine_lines, put};
 use std::alloc::{AllocError, Global};
 
 /// How many changes of lines of a watch are kept.

@@ -11,10 +11,11 @@ ghost use Rattle.hv_map.specs.Levels.{IsWayWithin};
 ghost use Rattle.hv_run.specs.Text.{hex_at};
 ghost use Rattle.hv_report.specs.Dumps.{bytes_line, dump_text, dumps_text, is_zero, offset_text, page_lines, page_read, page_text, row_bytes as row_bytes_of, row_line};
 
-use crate::puts::{hex_digit, put, put_number};
+use crate::puts::put_number;
 use hv_block::block_word;
 use hv_load::Dump;
 use hv_map::{Chain, Path, Way, pin, resolve};
+use hv_run::{hex_digit, put};
 use hv_store::{Steps, Store};
 use hv_word::field;
 use std::alloc::{AllocError, Global};

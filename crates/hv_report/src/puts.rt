@@ -1,12 +1,11 @@
 //! Pieces of text.
 
-ghost use Rattle.std.specs.Prelude.{◌≡◌, ◌<◌, ◌++◌, OnOk};
+ghost use Rattle.std.specs.Prelude.{◌≡◌, ◌++◌, OnOk};
 ghost use Rattle.std.specs.Fmt.{decimal};
-ghost use Rattle.hv_run.specs.Text.{hex8, hex_digit as hex_digit_of};
 ghost use Rattle.hv_report.specs.Report.{answer_text, path_text, syllables_text};
 
 use hv_map::Path;
-use hv_word::field;
+use hv_run::{put, put_decimal};
 use std::alloc::{AllocError, Global};
 
 /// Appends the syllables of a path with dots between them, or `-` for that of the bare machine.
@@ -52,52 +51,4 @@ pub fn put_number(
 {
     put(out, label)?;
     put_decimal(alloc, out, number)
-}
-
-// Appends a number in decimal digits.
-fn put_decimal(alloc: Global, out: &mut Vec<u8>, number: u64) -> Result<(), AllocError>
-    ensures { OnOk result (out.new.items ≡ out.old.items ++ decimal number) }
-{
-    let digits = number.to_string(alloc)?;
-    put(out, digits.as_bytes())
-}
-
-/// Appends a text.
-pub fn put(out: &mut Vec<u8>, text: &[u8]) -> Result<(), AllocError>
-    ensures { OnOk result (out.new.items ≡ out.old.items ++ text.now) }
-{
-    out.extend_from_slice(text)
-}
-
-/// Appends a word as eight digits.
-#[tactic(auto, using(crate::proofs::Digits::digits))]
-pub fn put_hex8(out: &mut Vec<u8>, word: u32) -> Result<(), AllocError>
-    ensures { OnOk result (out.new.items ≡ out.old.items ++ hex8 word) }
-{
-    put(
-        out,
-        &[
-            hex_digit(field::<28, 4>(word)),
-            hex_digit(field::<24, 4>(word)),
-            hex_digit(field::<20, 4>(word)),
-            hex_digit(field::<16, 4>(word)),
-            hex_digit(field::<12, 4>(word)),
-            hex_digit(field::<8, 4>(word)),
-            hex_digit(field::<4, 4>(word)),
-            hex_digit(field::<0, 4>(word)),
-        ],
-    )
-}
-
-// A digit, 0 to 9 and a to f.
-pub(crate) fn hex_digit(digit: u32) -> u8
-    requires { digit < 16 }
-    ensures { result ≡ hex_digit_of digit }
-{
-    let digit = digit as u8;
-    if digit < 10 {
-        b'0' + digit
-    } else {
-        b'a' - 10 + digit
-    }
 }

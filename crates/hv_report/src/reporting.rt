@@ -5,11 +5,11 @@ ghost use Rattle.hv_report.specs.Report.{AreThere, IsThere, faults_text, hart_li
 
 use crate::dumps::put_dumps;
 use crate::machine::machine_words;
-use crate::puts::{put, put_answer, put_number, put_path};
+use crate::puts::{put_answer, put_number, put_path};
 use hv_load::Plan;
 use hv_map::Path;
 use hv_nest::Nested;
-use hv_run::{FaultRow, Record, WatchRow, fault_line, machine_lines};
+use hv_run::{FaultRow, Record, WatchRow, fault_line, machine_lines, put};
 use std::alloc::{AllocError, Global};
 
 /// The report on a play, which the engine has made to its end: what was told of it, the machines that run, the watches, the

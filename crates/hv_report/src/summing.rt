@@ -6,10 +6,10 @@ ghost use Rattle.hv_report.specs.Report.{AreThere, IsThere};
 ghost use Rattle.hv_report.specs.Summary.{number_line, sum_lines, sum_of, summary_of, summed_watch, summed_watches};
 
 use crate::machine::machine_words;
-use crate::puts::{put, put_hex8, put_number};
+use crate::puts::put_number;
 use crate::reporting::{put_harts, put_head, put_watch_line};
 use hv_nest::Nested;
-use hv_run::{Record, WatchRow};
+use hv_run::{Record, WatchRow, put, put_hex8};
 use std::alloc::{AllocError, Global};
 
 /// The summary of the play of the job that a number generates, whose tower has this depth: the steps, the machines that run,

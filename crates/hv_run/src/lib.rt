@@ -21,7 +21,7 @@ pub use moving::Play;
 pub use playing::play;
 pub use record::{Record, WatchRow};
 pub use rows::Rows;
-pub use text::{fault_line, machine_lines, register_lines};
+pub use text::{fault_line, hex_digit, machine_lines, put, put_decimal, put_hex8, register_lines};
 
 #[cfg(test)]
 mod tests;

@@ -147,9 +147,9 @@ fn put_change(alloc: Global, out: &mut Vec<u8>, row: &LineRow) -> Result<(), All
     put(out, b"\n")
 }
 
-// Appends a word as eight digits.
+/// Appends a word as eight digits.
 #[tactic(auto, unfolding(crate::specs::Text::hex8))]
-fn put_hex8(out: &mut Vec<u8>, word: u32) -> Result<(), AllocError>
+pub fn put_hex8(out: &mut Vec<u8>, word: u32) -> Result<(), AllocError>
     ensures { OnOk result (out.new.items ≡ out.old.items ++ hex8 word) }
 {
     let digits = [
@@ -165,8 +165,8 @@ fn put_hex8(out: &mut Vec<u8>, word: u32) -> Result<(), AllocError>
     put(out, &digits)
 }
 
-// A digit, 0 to 9 and a to f.
-fn hex_digit(value: u32) -> u8
+/// A digit, 0 to 9 and a to f.
+pub fn hex_digit(value: u32) -> u8
     requires { value < 16 }
     ensures { result ≡ hex_digit_of value }
 {
@@ -177,16 +177,16 @@ fn hex_digit(value: u32) -> u8
     }
 }
 
-// Appends a number in decimal digits.
-fn put_decimal(alloc: Global, out: &mut Vec<u8>, number: u64) -> Result<(), AllocError>
+/// Appends a number in decimal digits.
+pub fn put_decimal(alloc: Global, out: &mut Vec<u8>, number: u64) -> Result<(), AllocError>
     ensures { OnOk result (out.new.items ≡ out.old.items ++ decimal number) }
 {
     let digits = number.to_string(alloc)?;
     put(out, digits.as_bytes())
 }
 
-// Appends a text.
-fn put(out: &mut Vec<u8>, text: &[u8]) -> Result<(), AllocError>
+/// Appends a text.
+pub fn put(out: &mut Vec<u8>, text: &[u8]) -> Result<(), AllocError>
     ensures { OnOk result (out.new.items ≡ out.old.items ++ text.now) }
 {
     out.extend_from_slice(text)

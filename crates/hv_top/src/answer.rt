@@ -12,7 +12,8 @@ use crate::debugging::debugged;
 use crate::dis::disassembled;
 use crate::generating::generated;
 use crate::running::reported;
-use hv_report::{put, put_number};
+use hv_report::put_number;
+use hv_run::put;
 use hv_words::Command;
 use std::alloc::{AllocError, Global};
 

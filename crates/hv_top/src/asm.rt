@@ -7,7 +7,7 @@ ghost use Rattle.hv_top.specs.Asm.{asm_kind_text, asm_output, word_lines};
 
 use crate::answer::{Answer, refused, written};
 use hv_asm::{AsmEnd, AsmKind, assemble};
-use hv_report::{put, put_hex8};
+use hv_run::{put, put_hex8};
 use std::alloc::{AllocError, Global};
 
 /// The words of an assembly text whose first address is 0, each as eight hexadecimal digits on a line of its own, or the

@@ -10,7 +10,7 @@ ghost use Rattle.hv_top.specs.Dis.{dis_output, word_in};
 use crate::answer::{Answer, refused, written};
 use hv_dis::disassemble;
 use hv_lex::{first_line, read_number};
-use hv_report::put;
+use hv_run::put;
 use std::alloc::{AllocError, Global};
 
 /// The instruction of each line, or the refusal of the first line that isn't exactly eight hexadecimal digits.

@@ -11,7 +11,7 @@ use Rattle.hv_store.specs.declared.access.Slot.{Slot}
 use Rattle.hv_store.specs.Access.{identity}
 use Rattle.hv_map.specs.Apart.{opened_if, open_pages, directory_of, table_open, table_pages}
 use Rattle.hv_map.specs.Chain.{along, map_along}
-use Rattle.hv_map.specs.Compose.{composed, reading, table_of}
+use Rattle.hv_map.specs.Compose.{compose, reading, table_of}
 use Rattle.hv_map.specs.Item.{Item}
 use Rattle.hv_map.specs.Links.{chain_item}
 use Rattle.hv_map.specs.declared.chain.ChainItem.{ChainItem}
@@ -81,7 +81,7 @@ unfolding chain_foot along
 chain_foot-push S F j [] x =
     append-nil (item_foot S F j x) ∙ ap (λ (k : ℕ). item_foot S F k x) (omega arith)
 chain_foot-push S F j (y ∷ ys) x =
-    let G = composed S F j y.pages y.table y.version in
+    let G = compose S F j y.pages y.table y.version in
     let level : j + 1 + length ys ≡ j + suc (length ys) = omega arith in
     ap (λ (zs : List ℕ). item_foot S F j y ++ zs) (chain_foot-push S G (j + 1) ys x)
     ∙ sym (append_assoc (item_foot S F j y) (chain_foot S G (j + 1) ys) (item_foot S (along S G (j + 1) ys) (j + 1 + length ys) x))

@@ -10,7 +10,7 @@ use Rattle.hv_store.specs.Access.{identity, open_at}
 use Rattle.hv_word.specs.Storage.{page_count}
 use Rattle.hv_map.specs.Apart.{blocks_of, opened, opened_if, open_pages, table_open, tables_of, directory_of, tables_along}
 use Rattle.hv_map.specs.Chain.{along, map_along}
-use Rattle.hv_map.specs.Compose.{composed, reading, table_of}
+use Rattle.hv_map.specs.Compose.{compose, reading, table_of}
 use Rattle.hv_map.specs.Item.{Item}
 use Rattle.hv_map.specs.Links.{chain_item}
 use Rattle.hv_map.specs.declared.chain.ChainItem.{ChainItem}
@@ -75,7 +75,7 @@ tables_along-push S F j [] x =
     append-nil (directory_of F x ++ tables_of S F j x)
     ∙ ap (λ (k : ℕ). directory_of F x ++ tables_of S F k x) (omega arith)
 tables_along-push S F j (y ∷ ys) x =
-    let G = composed S F j y.pages y.table y.version in
+    let G = compose S F j y.pages y.table y.version in
     let level : j + 1 + length ys ≡ j + suc (length ys) = omega arith in
     ap (λ (zs : List ℕ). (directory_of F y ++ tables_of S F j y) ++ zs) (tables_along-push S G (j + 1) ys x)
     ∙ sym (append_assoc (directory_of F y ++ tables_of S F j y) (tables_along S G (j + 1) ys) (directory_of (along S G (j + 1) ys) x ++ tables_of S (along S G (j + 1) ys) (j + 1 + length ys) x))

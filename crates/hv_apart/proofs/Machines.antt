@@ -14,8 +14,8 @@ use Rattle.hv_store.proofs.Identity.{length-identity, slice_get-identity}
 use Rattle.hv_block.specs.Block.{Held, block_of}
 use Rattle.hv_block.proofs.Blocks.{block_sized}
 use Rattle.hv_map.specs.Item.{Item}
-use Rattle.hv_map.specs.Compose.{composed}
-use Rattle.hv_map.specs.Chain.{child_held, child_through, child_at, child_of, option_cons, machines, pinned}
+use Rattle.hv_map.specs.Compose.{compose}
+use Rattle.hv_map.specs.Chain.{child_held, child_through, child_at, child_of, option_cons, machines, pin_of}
 use Rattle.hv_map.specs.Links.{syllable_of}
 use Rattle.hv_map.proofs.Handed.{composed_opens}
 
@@ -24,7 +24,7 @@ record Split (S : List ℕ) (F : List Slot) (j s : ℕ) (path : List ℕ) (items
   first : Item
   others : List Item
   found : child_of S F s ≡ Some first
-  rest : machines S (composed S F j first.pages first.table first.version) (j + 1) path ≡ Some others
+  rest : machines S (compose S F j first.pages first.table first.version) (j + 1) path ≡ Some others
   all : items ≡ first ∷ others
 
 split : (S : List ℕ) (F : List Slot) (j s : ℕ) (path : List ℕ) (items : List Item) → machines S F j (s ∷ path) ≡ Some items → Split S F j s path items
@@ -32,7 +32,7 @@ unfolding machines
 split S F j s path items e = from (child_of S F s) refl e
   where
     next : Item → Option (List Item)
-    next x = machines S (composed S F j x.pages x.table x.version) (j + 1) path
+    next x = machines S (compose S F j x.pages x.table x.version) (j + 1) path
 
     inner : (x : Item) → child_of S F s ≡ Some x → (o : Option (List Item)) → next x ≡ o → option_cons x o ≡ Some items → Split S F j s path items
     inner x is None r h = cc
@@ -53,8 +53,8 @@ machines-take S F j path items zero e = refl
 machines-take S F j [] items (suc k) e = ap (λ (xs : List Item). Some (take (suc k) xs)) (sym (no_items S F j items e))
 machines-take S F j (s ∷ path) items (suc k) e =
     let p = split S F j s path items e in
-    ap (option_and_then (λ (x : Item). option_cons x (machines S (composed S F j x.pages x.table x.version) (j + 1) (take k path)))) p.found
-    ∙ ap (option_cons p.first) (machines-take S (composed S F j p.first.pages p.first.table p.first.version) (j + 1) path p.others k p.rest)
+    ap (option_and_then (λ (x : Item). option_cons x (machines S (compose S F j x.pages x.table x.version) (j + 1) (take k path)))) p.found
+    ∙ ap (option_cons p.first) (machines-take S (compose S F j p.first.pages p.first.table p.first.version) (j + 1) path p.others k p.rest)
     ∙ ap (λ (xs : List Item). Some (take (suc k) xs)) (sym p.all)
 
 -- each open way of F opens a bare page below P
@@ -75,7 +75,7 @@ identity_below P y s a x is e = go a e
     go Write h = let r : x ≡ y = (let f : Open y ≡ Open x = sym (ap (λ (t : Slot). t.write) same) ∙ h in cc) in omega (arith, inside)
     go Fetch h = let r : x ≡ y = (let f : Open y ≡ Open x = sym (ap (λ (t : Slot). t.fetch) same) ∙ h in cc) in omega (arith, inside)
 
-composed_below : (P : ℕ) (S : List ℕ) (F : List Slot) (j n t v : ℕ) → OpensBelow P F → OpensBelow P (composed S F j n t v)
+composed_below : (P : ℕ) (S : List ℕ) (F : List Slot) (j n t v : ℕ) → OpensBelow P F → OpensBelow P (compose S F j n t v)
 composed_below P S F j n t v below y s a x is e =
     let o = composed_opens F j S n t v y s a x is e in
     below o.0 o.1 a x o.2 o.3
@@ -110,7 +110,7 @@ all_fit P S F j [] items i x below e is =
 all_fit P S F j (s ∷ path) items i x below e is =
     let p = split S F j s path items e in
     let more : (k : ℕ) → slice_get p.others k ≡ Some x → Fits P x =
-    (λ k h. all_fit P S (composed S F j p.first.pages p.first.table p.first.version) (j + 1) path p.others k x (composed_below P S F j p.first.pages p.first.table p.first.version below) p.rest h)
+    (λ k h. all_fit P S (compose S F j p.first.pages p.first.table p.first.version) (j + 1) path p.others k x (composed_below P S F j p.first.pages p.first.table p.first.version below) p.rest h)
     in
     one_of p.first p.others (child_fits P S F s p.first below p.found) more i (sym (ap (λ (xs : List Item). slice_get xs i) p.all) ∙ is)
   where
@@ -119,21 +119,21 @@ all_fit P S F j (s ∷ path) items i x below e is =
     one_of first others b more (suc k) h = more k h
 
 -- the same for the machines of a chain of the store
-pinned-take : (S : List ℕ) (items : List Item) (k : ℕ) → pinned S (map syllable_of items) ≡ Some items → pinned S (take k (map syllable_of items)) ≡ Some (take k items)
-unfolding pinned
+pinned-take : (S : List ℕ) (items : List Item) (k : ℕ) → pin_of S (map syllable_of items) ≡ Some items → pin_of S (take k (map syllable_of items)) ≡ Some (take k items)
+unfolding pin_of
 pinned-take S items k e = machines-take S (identity (page_count S)) 0 (map syllable_of items) items k e
 
 pub pinned_first : (S : List ℕ) (items : List Item) (level i : ℕ) (whole path : List ℕ)
-    → pinned S (map syllable_of items) ≡ Some items
+    → pin_of S (map syllable_of items) ≡ Some items
     → whole ≡ map syllable_of items
     → path ≡ take i (take level whole)
     → length (take level whole) ≤ i
-    → pinned S path ≡ Some (take level items)
+    → pin_of S path ≡ Some (take level items)
 pinned_first S items level i whole path e all part end =
-    ap (pinned S) (part ∙ take_all i (take level whole) end ∙ ap (take level) all) ∙ pinned-take S items level e
+    ap (pin_of S) (part ∙ take_all i (take level whole) end ∙ ap (take level) all) ∙ pinned-take S items level e
 
-pub pinned_fits : (S : List ℕ) (items : List Item) (i : ℕ) (x : Item) → pinned S (map syllable_of items) ≡ Some items → slice_get items i ≡ Some x → Fits (page_count S) x
-unfolding pinned
+pub pinned_fits : (S : List ℕ) (items : List Item) (i : ℕ) (x : Item) → pin_of S (map syllable_of items) ≡ Some items → slice_get items i ≡ Some x → Fits (page_count S) x
+unfolding pin_of
 pinned_fits S items i x e is =
     all_fit (page_count S) S (identity (page_count S)) 0 (map syllable_of items) items i x (identity_below (page_count S)) e is
 
@@ -158,8 +158,8 @@ syllables S F j [] items e = ap (map syllable_of) (no_items S F j items e)
 syllables S F j (s ∷ path) items e =
     let p = split S F j s path items e in
     ap (map syllable_of) p.all
-    ∙ ap₂ (λ (a : ℕ) (b : List ℕ). a ∷ b) (child_syllable S F s p.first p.found) (syllables S (composed S F j p.first.pages p.first.table p.first.version) (j + 1) path p.others p.rest)
+    ∙ ap₂ (λ (a : ℕ) (b : List ℕ). a ∷ b) (child_syllable S F s p.first p.found) (syllables S (compose S F j p.first.pages p.first.table p.first.version) (j + 1) path p.others p.rest)
 
-pub pinned_own : (S path : List ℕ) (items : List Item) → pinned S path ≡ Some items → pinned S (map syllable_of items) ≡ Some items
-unfolding pinned
+pub pinned_own : (S path : List ℕ) (items : List Item) → pin_of S path ≡ Some items → pin_of S (map syllable_of items) ≡ Some items
+unfolding pin_of
 pinned_own S path items e = ap (machines S (identity (page_count S)) 0) (syllables S (identity (page_count S)) 0 path items e) ∙ e

@@ -4,7 +4,7 @@ ghost use Rattle.std.specs.Prelude.{◌≡◌, ◌+◌, ◌<◌, ◌≤◌, ◌^
 ghost use Rattle.std.specs.Option.{option_to_list};
 ghost use Rattle.hv_word.specs.Storage.{page_count};
 ghost use Rattle.hv_map.specs.Apart.{opened_if, directory_of, table_open};
-ghost use Rattle.hv_map.specs.Chain.{map_along, pinned};
+ghost use Rattle.hv_map.specs.Chain.{map_along, pin_of};
 ghost use Rattle.hv_map.specs.Compose.{reading, table_of};
 ghost use Rattle.hv_map.specs.Levels.{IsWithin};
 ghost use Rattle.hv_map.specs.Links.{syllable_of};
@@ -20,7 +20,7 @@ use std::sync::ledger::{Blank, Ledger};
 /// The first `level` machines of a chain of the store.
 pub(crate) fn prefix(store: &Store, chain: &Chain, level: u32) -> Chain
     requires level { level ≤ length chain.now }
-    requires pinned { pinned store.now (map syllable_of chain.now) ≡ Some chain.now }
+    requires pin_of { pin_of store.now (map syllable_of chain.now) ≡ Some chain.now }
     ensures { result ≡ take level chain.now }
 {
     let whole = chain.path();

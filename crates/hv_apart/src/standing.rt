@@ -4,7 +4,7 @@ ghost use Rattle.std.specs.Prelude.{◌≡◌, ◌≤◌, ◌^◌, ◌++◌, Som
 ghost use Rattle.hv_word.specs.Storage.{page_count};
 ghost use Rattle.hv_store.specs.Access.{identity};
 ghost use Rattle.hv_map.specs.Apart.{blocks_of, directory_of, is_apart, is_one, open_pages, tables_along, tables_of};
-ghost use Rattle.hv_map.specs.Chain.{map_along, pinned};
+ghost use Rattle.hv_map.specs.Chain.{map_along, pin_of};
 ghost use Rattle.hv_map.specs.Links.{syllable_of};
 ghost use Rattle.hv_apart.specs.Added.{Added};
 ghost use Rattle.hv_apart.specs.Table.{machine_of};
@@ -27,7 +27,7 @@ pub fn one_to_one(store: &Store, chain: &Chain) -> bool
 /// chain, their tables and directories as far as their parents can read them, and the pages that the machine can read. The
 /// chain is the store's: `pin` of its path gives it. It takes no memory.
 pub fn apart(store: &Store, chain: &Chain) -> bool
-    requires { pinned store.now (map syllable_of chain.now) ≡ Some chain.now }
+    requires { pin_of store.now (map syllable_of chain.now) ≡ Some chain.now }
     ensures { result ≡ is_apart store.now chain.now }
 {
     let mut marks = Marks::new();
@@ -39,7 +39,7 @@ pub fn apart(store: &Store, chain: &Chain) -> bool
 
 // The blocks of the machines on the chain.
 fn add_blocks(marks: &mut Marks, store: &Store, chain: &Chain)
-    requires { pinned store.now (map syllable_of chain.now) ≡ Some chain.now }
+    requires { pin_of store.now (map syllable_of chain.now) ≡ Some chain.now }
     ensures { Added marks.old marks.new (blocks_of chain.now) }
 {
     let _pages = store.pages();
@@ -50,7 +50,7 @@ fn add_blocks(marks: &mut Marks, store: &Store, chain: &Chain)
 
 // Their directories and tables.
 fn add_tables(marks: &mut Marks, store: &Store, chain: &Chain)
-    requires { pinned store.now (map syllable_of chain.now) ≡ Some chain.now }
+    requires { pin_of store.now (map syllable_of chain.now) ≡ Some chain.now }
     ensures { Added marks.old marks.new (tables_along store.now (identity (page_count store.now)) 0 chain.now) }
 {
     for level in 0..chain.len() {

@@ -5,7 +5,7 @@ use Rattle.std.specs.Option.{option_and_then}
 use Rattle.std.proofs.lemmas.List.{flat_map_more, take_more}
 use Rattle.std.proofs.lemmas.Option.{get_or_from_slice_get, slice_get_within}
 use Rattle.hv_apart.proofs.Machines.{pinned_own}
-use Rattle.hv_map.specs.Chain.{pinned}
+use Rattle.hv_map.specs.Chain.{pin_of}
 use Rattle.hv_map.specs.Item.{Item}
 use Rattle.hv_map.specs.Links.{syllable_of}
 use Rattle.hv_report.specs.Report.{faults_text}
@@ -27,6 +27,6 @@ faults_more front out text kept i row is before line =
     ∙ sym (ap (λ (fs : List FaultTold). front ++ faults_text fs) more)
 
 -- the chain that a path pins is that of its own path
-pub own_chain : (S : List ℕ) (path : Option (List ℕ)) (items : List Item) → Some items ≡ option_and_then (pinned S) path → pinned S (map syllable_of items) ≡ Some items
+pub own_chain : (S : List ℕ) (path : Option (List ℕ)) (items : List Item) → Some items ≡ option_and_then (pin_of S) path → pin_of S (map syllable_of items) ≡ Some items
 own_chain S None items e = cc
 own_chain S (Some path) items e = pinned_own S path items (sym e)

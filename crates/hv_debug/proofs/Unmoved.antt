@@ -5,7 +5,7 @@ use Rattle.std.proofs.lemmas.Option.{same_Some}
 use Rattle.hv_word.specs.Storage.{word_at}
 use Rattle.hv_cpu.specs.Lines.{lined_of}
 use Rattle.hv_cpu.specs.Regs.{Regs}
-use Rattle.hv_map.specs.Chain.{child_next, pinned, run_on, running}
+use Rattle.hv_map.specs.Chain.{child_next, pin_of, run_on, running}
 use Rattle.hv_map.specs.Item.{Item}
 use Rattle.hv_nest.specs.Move.{Move, StepOf, LinesOf, last_of, lined_at, lined_state, running_at, state_after}
 use Rattle.hv_nest.specs.State.{State}
@@ -66,7 +66,7 @@ at_same : (u st : State) (hart : ℕ) (b : Break) → Same u st hart → is_at u
 at_same u st hart b same =
     ap₂ (λ (path : List ℕ) (x : Bool). bytes_eq b.path path && x)
     (ap (λ (S : List ℕ). running_at S (slice_get u.harts hart)) same.storage ∙ running_seen st.storage (slice_get u.harts hart) (slice_get st.harts hart) same.shown)
-    (ap (λ (S : List ℕ). has_counter u hart b.at (pinned S b.path)) same.storage ∙ has (pinned st.storage b.path))
+    (ap (λ (S : List ℕ). has_counter u hart b.at (pin_of S b.path)) same.storage ∙ has (pin_of st.storage b.path))
   where
     counter : (block : Option ℕ) → counter_in u hart block ≡ counter_in st hart block
     counter None = counter_seen (slice_get u.harts hart) (slice_get st.harts hart) same.shown

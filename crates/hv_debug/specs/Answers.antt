@@ -8,7 +8,7 @@ use Rattle.hv_store.specs.declared.access.Access.TheVariants.{Read}
 use Rattle.hv_store.specs.declared.access.Way.{Way}
 use Rattle.hv_store.specs.declared.access.Way.TheVariants.{Open, Shut}
 use Rattle.hv_map.specs.Item.{Item}
-use Rattle.hv_map.specs.Chain.{map_along, pinned}
+use Rattle.hv_map.specs.Chain.{map_along, pin_of}
 use Rattle.hv_map.specs.Trail.{trail, trail_pages}
 use Rattle.hv_nest.specs.State.{State}
 use Rattle.hv_nest.specs.Watched.{last_block}
@@ -26,7 +26,7 @@ path_named name (n ∷ names) = if bytes_eq n.name name then Some n.path else pa
 
 -- the machines on the path to it, as they are now
 abbrev pub machine_named : List ℕ → List ℕ → List Named → Option (List Item)
-machine_named S name names = option_and_then (pinned S) (path_named name names)
+machine_named S name names = option_and_then (pin_of S) (path_named name names)
 
 -- the words of a command
 abbrev pub echo_line : List ℕ → List ℕ

@@ -4,7 +4,7 @@ use Rattle.std.specs.List.{list_any}
 use Rattle.hv_word.specs.Storage.{word_at}
 use Rattle.hv_cpu.specs.Regs.{Regs}
 use Rattle.hv_map.specs.Item.{Item}
-use Rattle.hv_map.specs.Chain.{pinned}
+use Rattle.hv_map.specs.Chain.{pin_of}
 use Rattle.hv_nest.specs.State.{State}
 use Rattle.hv_nest.specs.Move.{Move, StepOf, LinesOf, last_of, running_of}
 use Rattle.hv_nest.specs.Watched.{last_block}
@@ -68,7 +68,7 @@ has_counter st hart pc (Some items) = counter_in st hart (last_block items) == p
 
 -- whether a hart runs the machine of a breakpoint, and that machine is at its address
 abbrev pub is_at : State → ℕ → Break → Bool
-is_at st hart stop = bytes_eq stop.path (running_of st hart) && has_counter st hart stop.at (pinned st.storage stop.path)
+is_at st hart stop = bytes_eq stop.path (running_of st hart) && has_counter st hart stop.at (pin_of st.storage stop.path)
 
 abbrev pub is_stopped : State → List Break → ℕ → Bool
 is_stopped st breaks hart = list_any (is_at st hart) breaks

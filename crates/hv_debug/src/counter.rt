@@ -2,7 +2,7 @@
 
 ghost use Rattle.std.specs.Prelude.{◌≡◌, ◌<◌, ◌&&◌, IfSome, length, not};
 ghost use Rattle.hv_word.specs.Storage.{page_count};
-ghost use Rattle.hv_map.specs.Chain.{pinned};
+ghost use Rattle.hv_map.specs.Chain.{pin_of};
 ghost use Rattle.hv_nest.specs.Move.{running_of};
 ghost use Rattle.hv_debug.specs.Playing.{counter_in, has_counter, is_at, is_stopped};
 
@@ -56,7 +56,7 @@ fn is_at<N: Nested>(nested: &N, hart: u32, running: &Path, stop: &Break) -> bool
 // Whether the breakpoint's machine is there and is at its address, where a hart runs it.
 fn has_counter<N: Nested>(nested: &N, hart: u32, stop: &Break) -> bool
     requires { hart < length (N.state nested.now).harts }
-    ensures { result ≡ has_counter (N.state nested.now) hart stop.now.at (pinned (N.state nested.now).storage stop.now.path) }
+    ensures { result ≡ has_counter (N.state nested.now) hart stop.now.at (pin_of (N.state nested.now).storage stop.now.path) }
 {
     let store = nested.parked();
     match pin(store, &stop.path) {

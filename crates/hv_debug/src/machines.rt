@@ -3,7 +3,7 @@
 ghost use Rattle.std.specs.Prelude.{◌≡◌, ◌<◌, Some, IfSome, map};
 ghost use Rattle.std.specs.Option.{option_and_then, option_copied};
 ghost use Rattle.hv_word.specs.Storage.{page_count};
-ghost use Rattle.hv_map.specs.Chain.{pinned};
+ghost use Rattle.hv_map.specs.Chain.{pin_of};
 ghost use Rattle.hv_map.specs.Links.{syllable_of};
 ghost use Rattle.hv_nest.specs.Watched.{last_block};
 ghost use Rattle.hv_report.specs.Dumps.{page_read};
@@ -46,7 +46,7 @@ pub(crate) fn page_of(store: &Store, names: &[Named], name: &Name, page: u32) ->
 
 /// The bare page of the last machine's block, none for the bare machine.
 pub(crate) fn last_block(store: &Store, chain: &Chain) -> Option<u32>
-    requires { pinned store.now (map syllable_of chain.now) ≡ Some chain.now }
+    requires { pin_of store.now (map syllable_of chain.now) ≡ Some chain.now }
     ensures block { result ≡ last_block chain.now }
     ensures bound { IfSome result (λ g. g < page_count store.now) }
 {

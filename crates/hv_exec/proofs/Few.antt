@@ -24,7 +24,7 @@ use Rattle.hv_store.specs.declared.access.Refusal.{Refusal}
 use Rattle.hv_store.specs.declared.access.Slot.{Slot}
 use Rattle.hv_store.specs.declared.access.Way.{Way}
 use Rattle.hv_store.specs.declared.access.Way.TheVariants.{Open, Shut}
-use Rattle.hv_store.specs.Access.{got, write_through, put_at, clear_through, cleared_at, cleared}
+use Rattle.hv_store.specs.Access.{get, write_through, put_at, clear_through, cleared_at, cleared}
 use Rattle.hv_sv32.specs.Stop.{Walked, Found, TrapWith, RefusedBy}
 use Rattle.hv_sv32.specs.Entry.{is_faulty, is_leaf, is_plain, page_of, grants}
 use Rattle.hv_sv32.specs.Walk.{barred, outside, placed, at_second, from_second, through_second, large_page, at_first, from_first, through_first, is_bare, walk_of}
@@ -418,7 +418,7 @@ few_trapped S F r cause tval = few_done S F r (take_trap_of r cause false tval) 
 few_load : (S : List ℕ) (F : List Slot) (r : Regs) (address : ℕ) (width : Width) (signed : Bool) (rd : ℕ) (walked : Walked) → ChangesFew S F r (load_at S F r address width signed rd walked)
 few_load S F r address width signed rd (TrapWith cause tval) = few_trapped S F r cause tval
 few_load S F r address width signed rd (RefusedBy e) = tt
-few_load S F r address width signed rd (Found page offset) = by (got S F page (offset / 4) Read)
+few_load S F r address width signed rd (Found page offset) = by (get S F page (offset / 4) Read)
   where
     by : (o : Option (Result ℕ Refusal)) → ChangesFew S F r (loaded S r address width signed rd offset o)
     by None = few_trapped S F r 5 address
@@ -445,7 +445,7 @@ pick_near false v w f g = g
 
 walk_near : (S : List ℕ) (F : List Slot) (r : Regs) (address : ℕ) (a : Access) → IsNear (walk_of S F r address a)
 unfolding IsNear
-walk_near S F r address a = pick_near (is_bare r a) (placed F (address / 4096) address a) (through_first S F r address a) (placed_near F (address / 4096) address a) (first (got S F (field_of r.satp 0 22) (field_of address 22 10) Read))
+walk_near S F r address a = pick_near (is_bare r a) (placed F (address / 4096) address a) (through_first S F r address a) (placed_near F (address / 4096) address a) (first (get S F (field_of r.satp 0 22) (field_of address 22 10) Read))
   where
     at : (e : ℕ) → IsNear (at_second F r address a e)
     at e =
@@ -462,7 +462,7 @@ walk_near S F r address a = pick_near (is_bare r a) (placed F (address / 4096) a
         pick_near (is_faulty e) (barred address a) (cond (is_leaf e) (cond ((field_of e 10 10 == 0) && grants r a e) (placed F (large_page e address) address a) (barred address a)) (cond (is_plain e) (through_second S F r (page_of e) address a) (barred address a))) tt
         (pick_near (is_leaf e) (cond ((field_of e 10 10 == 0) && grants r a e) (placed F (large_page e address) address a) (barred address a)) (cond (is_plain e) (through_second S F r (page_of e) address a) (barred address a))
         (pick_near ((field_of e 10 10 == 0) && grants r a e) (placed F (large_page e address) address a) (barred address a) (placed_near F (large_page e address) address a) tt)
-        (pick_near (is_plain e) (through_second S F r (page_of e) address a) (barred address a) (second (got S F (page_of e) (field_of address 12 10) Read)) tt))
+        (pick_near (is_plain e) (through_second S F r (page_of e) address a) (barred address a) (second (get S F (page_of e) (field_of address 12 10) Read)) tt))
 
     first : (o : Option (Result ℕ Refusal)) → IsNear (from_first S F r address a o)
     first None = tt
@@ -603,6 +603,6 @@ few_act S F h r = by (walk_of S F r r.pc Fetch)
     word (Some (Ok w)) = instr w (decode_of w)
 
     by : (walked : Walked) → ChangesFew S F r (fetch_at S F h r walked)
-    by (Found page offset) = word (got S F page (offset / 4) Fetch)
+    by (Found page offset) = word (get S F page (offset / 4) Fetch)
     by (TrapWith cause tval) = few_trapped S F r cause tval
     by (RefusedBy e) = tt

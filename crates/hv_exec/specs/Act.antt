@@ -9,7 +9,7 @@ use Rattle.hv_csr.specs.Traps.{take_trap_of}
 use Rattle.hv_store.specs.declared.access.Access.TheVariants.{Read, Write, Fetch}
 use Rattle.hv_store.specs.declared.access.Refusal.{Refusal}
 use Rattle.hv_store.specs.declared.access.Slot.{Slot}
-use Rattle.hv_store.specs.Access.{got, put_in, cleared}
+use Rattle.hv_store.specs.Access.{get, set, cleared}
 use Rattle.hv_sv32.specs.Stop.{Walked, Found, TrapWith, RefusedBy}
 use Rattle.hv_sv32.specs.Walk.{walk_of}
 use Rattle.hv_exec.specs.declared.answer.Width.{Width}
@@ -36,7 +36,7 @@ loaded S r address width signed rd offset (Some (Ok v)) =
 
 abbrev pub load_at : List ℕ → List Slot → Regs → ℕ → Width → Bool → ℕ → Walked → Acted
 load_at S F r address width signed rd (Found page offset) =
-    loaded S r address width signed rd offset (got S F page (offset / 4) Read)
+    loaded S r address width signed rd offset (get S F page (offset / 4) Read)
 load_at S F r address width signed rd (TrapWith cause tval) = trapped S r cause tval
 load_at S F r address width signed rd (RefusedBy e) = Refused e
 
@@ -48,7 +48,7 @@ stored S r address (Some (Ok T)) = Done T (advanced r)
 
 abbrev pub store_at : List ℕ → List Slot → Regs → ℕ → Width → ℕ → Walked → Acted
 store_at S F r address width v (Found page offset) =
-    stored S r address (put_in S F page (offset / 4) (lane_at width offset) v)
+    stored S r address (set S F page (offset / 4) (lane_at width offset) v)
 store_at S F r address width v (TrapWith cause tval) = trapped S r cause tval
 store_at S F r address width v (RefusedBy e) = Refused e
 
@@ -88,7 +88,7 @@ fetched S F hart r (Some (Err e)) = Refused e
 fetched S F hart r (Some (Ok w)) = decoded S F hart r w (decode_of w)
 
 unfoldable pub fetch_at : List ℕ → List Slot → ℕ → Regs → Walked → Acted
-fetch_at S F hart r (Found page offset) = fetched S F hart r (got S F page (offset / 4) Fetch)
+fetch_at S F hart r (Found page offset) = fetched S F hart r (get S F page (offset / 4) Fetch)
 fetch_at S F hart r (TrapWith cause tval) = trapped S r cause tval
 fetch_at S F hart r (RefusedBy e) = Refused e
 

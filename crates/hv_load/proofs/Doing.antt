@@ -5,7 +5,7 @@ use Rattle.hv_asm.specs.declared.Image.{Image}
 use Rattle.hv_job.specs.declared.job.DebugLine.{DebugLine}
 use Rattle.hv_job.specs.declared.job.Placed.{Placed}
 use Rattle.hv_map.specs.Item.{Item}
-use Rattle.hv_map.specs.Chain.{pinned}
+use Rattle.hv_map.specs.Chain.{pin_of}
 use Rattle.hv_samples.specs.declared.choice.Sample.{Sample}
 use Rattle.hv_load.specs.declared.ends.BuildEnd.{BuildEnd}
 use Rattle.hv_load.specs.declared.ends.BuildKind.{BuildKind}
@@ -29,12 +29,12 @@ refused_by (Fault why) part whole f is = f why is
 refused_by Memory part whole f is = tt
 
 -- A machine is known, under a name and in names as they are read; its chain is found, and the marks are read.
-module _ (b : Building) (name read : List ℕ) (names : List Known) (k : Known) (chain : Option (List Item)) (marks : List Mark) (is_known : Ok k ≡ known read names) (is_name : read ≡ name) (is_names : names ≡ b.names) (is_chain : chain ≡ pinned b.storage k.path) (is_marks : marks ≡ b.marks) where
+module _ (b : Building) (name read : List ℕ) (names : List Known) (k : Known) (chain : Option (List Item)) (marks : List Mark) (is_known : Ok k ≡ known read names) (is_name : read ≡ name) (is_names : names ≡ b.names) (is_chain : chain ≡ pin_of b.storage k.path) (is_marks : marks ≡ b.marks) where
   known_here : known name b.names ≡ Ok k
   known_here = ap (λ (n : List ℕ). known n b.names) (sym is_name) ∙ ap (known read) (sym is_names) ∙ sym is_known
 
   -- the places as they are found, and as they are defined
-  same_places : (free : Bool) (first n m : ℕ) → m ≡ n → each_from (place_by (found_by b.storage b.marks (pinned b.storage k.path) k.pages free)) first n ≡ each_from (place_by (found_by b.storage marks chain k.pages free)) first m
+  same_places : (free : Bool) (first n m : ℕ) → m ≡ n → each_from (place_by (found_by b.storage b.marks (pin_of b.storage k.path) k.pages free)) first n ≡ each_from (place_by (found_by b.storage marks chain k.pages free)) first m
   same_places free first n m is =
       ap (λ (ch : Option (List Item)). each_from (place_by (found_by b.storage b.marks ch k.pages free)) first n) (sym is_chain)
       ∙ ap (λ (ms : List Mark). each_from (place_by (found_by b.storage ms chain k.pages free)) first n) (sym is_marks)

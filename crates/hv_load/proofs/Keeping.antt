@@ -14,7 +14,7 @@ use Rattle.hv_job.specs.declared.job.Job.{Job}
 use Rattle.hv_job.specs.declared.job.Directive.{Directive}
 use Rattle.hv_job.specs.declared.job.Directive.TheVariants as directive
 use Rattle.hv_job.specs.declared.job.Placed.{Placed}
-use Rattle.hv_map.specs.Chain.{depth_limit, map_along, map_of, pinned}
+use Rattle.hv_map.specs.Chain.{depth_limit, map_along, map_of, pin_of}
 use Rattle.hv_map.specs.Item.{Item}
 use Rattle.hv_store.specs.Zeros.{zeros}
 use Rattle.std.specs.Option.{option_map}
@@ -305,7 +305,7 @@ all_watched S harts (a ∷ rest) is all =
     let first : IsAsked harts a = all 0 a (omega arith) in (
       record {
         hart = first.hart;
-        machine = can_be_there S (pinned S a.watch.path) here.0;
+        machine = can_be_there S (pin_of S a.watch.path) here.0;
         bare = λ empty. exactly harts a.watch.hart first.hart (first.bare empty);
       },
       all_watched S harts rest here.1 (λ k d lt. all (suc k) d (omega arith)),

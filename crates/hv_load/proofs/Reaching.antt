@@ -3,7 +3,7 @@ use Rattle.std.proofs.Common.{◌≡◌, ℕ, ◌-◌, ◌≤◌, List, length, 
 use Rattle.std.proofs.lemmas.List.{length-map, length-take-le}
 use Rattle.hv_block.specs.declared.Block.{Block}
 use Rattle.hv_map.specs.Item.{Item}
-use Rattle.hv_map.specs.Chain.{child_of, map_along, pinned}
+use Rattle.hv_map.specs.Chain.{child_of, map_along, pin_of}
 use Rattle.hv_map.specs.Compose.{reading, table_of}
 use Rattle.hv_map.specs.Found.{found_on, item_of}
 use Rattle.hv_map.specs.Words.{syllables}
@@ -17,14 +17,14 @@ use Rattle.hv_load.specs.declared.ends.BuildKind.{BuildKind}
 use Rattle.hv_load.specs.Pages.{block_page, outer, table_word_of, word_in_parent, word_named, word_of_child}
 
 -- the parent is at the level before
-level_before : (S path : List ℕ) (chain : List Item) → pinned S (outer path) ≡ Some chain → length chain ≡ length path - 1
-unfolding pinned
+level_before : (S path : List ℕ) (chain : List Item) → pin_of S (outer path) ≡ Some chain → length chain ≡ length path - 1
+unfolding pin_of
 level_before S path chain is =
     sym (length-map chain (λ (x : Item). x.syllable))
     ∙ ap length ((machines_chained S (identity (page_count S)) 0 (outer path) chain is).0)
     ∙ length-take-le (length path - 1) path (omega arith)
 
-pub table_word_found : (S path : List ℕ) (i : ℕ) (chain : List Item) (s g : ℕ) (b : Block) (r : Result ℕ BuildKind) → pinned S (outer path) ≡ Some chain → s ≡ block_page path → Some (Child g b) ≡ found_on S (map_along S chain) s → r ≡ word_named (map_along S chain) i (table_of S (reading (map_along S chain)) (length chain) b.table b.version i) → r ≡ table_word_of S path i
+pub table_word_found : (S path : List ℕ) (i : ℕ) (chain : List Item) (s g : ℕ) (b : Block) (r : Result ℕ BuildKind) → pin_of S (outer path) ≡ Some chain → s ≡ block_page path → Some (Child g b) ≡ found_on S (map_along S chain) s → r ≡ word_named (map_along S chain) i (table_of S (reading (map_along S chain)) (length chain) b.table b.version i) → r ≡ table_word_of S path i
 table_word_found S path i chain s g b r is page found given =
     given
     ∙ ap (λ (o : Option Item). word_of_child S (map_along S chain) (length chain) i o) (sym (child_there S (map_along S chain) s g b found))

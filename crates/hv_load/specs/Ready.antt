@@ -2,7 +2,7 @@
 use Rattle.std.specs.Prelude.{◌≡◌, ℕ, ◌*◌, ◌<◌, ◌≤◌, List, [], ◌∷◌, length, All, Option, Some, None}
 use Rattle.hv_job.specs.declared.job.Job.{Job}
 use Rattle.hv_map.specs.Item.{Item}
-use Rattle.hv_map.specs.Chain.{map_along, pinned}
+use Rattle.hv_map.specs.Chain.{map_along, pin_of}
 use Rattle.hv_map.specs.declared.path.Watch.{Watch}
 use Rattle.hv_load.specs.declared.start.Start.{Start}
 
@@ -14,7 +14,7 @@ IsThere S (Some items) = length (map_along S items) ≤ 16384
 -- the hart of a watch is there and its machine is, and this is the bare machine only where there is one hart
 pub record IsWatched (S : List ℕ) (harts : ℕ) (w : Watch) : Type 0 where
   pub hart : w.hart < harts
-  pub machine : IsThere S (pinned S w.path)
+  pub machine : IsThere S (pin_of S w.path)
   pub bare : w.path ≡ [] → harts ≡ 1
 
 abbrev pub EachWatched : List ℕ → ℕ → List Watch → Type 0

@@ -1,4 +1,4 @@
--- A composed map depends on the words of its table alone.
+-- A compose map depends on the words of its table alone.
 use Rattle.std.proofs.Common.{◌≡◌, ℕ, zero, suc, ◌+◌, ◌/◌, ◌%◌, ◌<◌, ◌≤◌, Bool, true, false, cond, ◌==◌, List, ◌∷◌, map, Option, Some, None, refl, ap, ◌∙◌, arith}
 use Rattle.std.specs.List.{range_with_len}
 use Rattle.std.proofs.lemmas.Bool.{eqb-true}
@@ -6,7 +6,7 @@ use Rattle.hv_word.specs.Storage.{word_at}
 use Rattle.hv_store.specs.declared.access.Slot.{Slot}
 use Rattle.hv_store.specs.declared.access.Way.{Way}
 use Rattle.hv_store.specs.declared.access.Way.TheVariants.{Open, Shut}
-use Rattle.hv_map.specs.Compose.{Looked, Named, Stopped, present, look, page_named, table_of, word_in, entry_of, reading, slot_of, composed_slot, composed, EachTableWord}
+use Rattle.hv_map.specs.Compose.{Looked, Named, Stopped, present, look, page_named, table_of, word_in, entry_of, reading, slot_of, compose_slot, compose, EachTableWord}
 
 pub map_range_alike : {X : Type 0} (f g : ℕ → X) (a n : ℕ) → ((i : ℕ) → a ≤ i → i < a + n → f i ≡ g i) → map f (range_with_len a n) ≡ map g (range_with_len a n)
 map_range_alike f g a zero h = refl
@@ -38,9 +38,9 @@ entry_agrees S A reads j t v i d h =
     word_agrees S A reads j i (table_of S reads j t v i) h
     ∙ ap (word_in A reads j i) (table_agrees S A reads j t v i d)
 
-pub composed_agrees : (S A : List ℕ) (F : List Slot) (j n t v : ℕ) → EachTableWord (λ g w. word_at S g w ≡ word_at A g w) S F j n t v → composed S F j n t v ≡ composed A F j n t v
-unfolding composed composed_slot
+pub composed_agrees : (S A : List ℕ) (F : List Slot) (j n t v : ℕ) → EachTableWord (λ g w. word_at S g w ≡ word_at A g w) S F j n t v → compose S F j n t v ≡ compose A F j n t v
+unfolding compose compose_slot
 composed_agrees S A F j n t v each =
-    map_range_alike (composed_slot S F j t v) (composed_slot A F j t v) 0 n (λ i low high.
+    map_range_alike (compose_slot S F j t v) (compose_slot A F j t v) 0 n (λ i low high.
     let h : i < n = omega arith in
     ap (slot_of F j v i) (entry_agrees S A (reading F) j t v i (λ g e p. each.directory i g h e p) (λ u g e p. each.table i u g h e p)))

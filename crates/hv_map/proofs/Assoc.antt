@@ -13,8 +13,8 @@ use Rattle.hv_store.proofs.Identity.{length-identity}
 use Rattle.hv_block.specs.Block.{Held, block_of}
 use Rattle.hv_block.proofs.Blocks.{block_alike, block_sized}
 use Rattle.hv_map.specs.Item.{Item}
-use Rattle.hv_map.specs.Compose.{composed}
-use Rattle.hv_map.specs.Chain.{along, map_along, child_held, child_through, child_at, child_of, option_cons, machines, pinned, map_of}
+use Rattle.hv_map.specs.Compose.{compose}
+use Rattle.hv_map.specs.Chain.{along, map_along, child_held, child_through, child_at, child_of, option_cons, machines, pin_of, map_of}
 use Rattle.hv_map.specs.Seen.{seen}
 use Rattle.hv_map.specs.Carried.{WayLike, SlotLike, MapLike, ShutBelow, OpensSame, Agree}
 use Rattle.hv_map.proofs.Slots.{length-composed, along-append}
@@ -39,24 +39,24 @@ pub record Begins (S : List ℕ) (F : List Slot) (j s : ℕ) (path : List ℕ) (
   pub head : Item
   pub rest : List Item
   pub child : child_of S F s ≡ Some head
-  pub others : machines S (composed S F j head.pages head.table head.version) (j + 1) path ≡ Some rest
+  pub others : machines S (compose S F j head.pages head.table head.version) (j + 1) path ≡ Some rest
   pub whole : head ∷ rest ≡ items
 
 pub begins_with : (S : List ℕ) (F : List Slot) (j s : ℕ) (path : List ℕ) (items : List Item) → machines S F j (s ∷ path) ≡ Some items → Begins S F j s path items
 unfolding machines
 begins_with S F j s path items = go (child_of S F s) refl
   where
-    go : (o : Option Item) → child_of S F s ≡ o → option_and_then (λ (x : Item). option_cons x (machines S (composed S F j x.pages x.table x.version) (j + 1) path)) o ≡ Some items → Begins S F j s path items
+    go : (o : Option Item) → child_of S F s ≡ o → option_and_then (λ (x : Item). option_cons x (machines S (compose S F j x.pages x.table x.version) (j + 1) path)) o ≡ Some items → Begins S F j s path items
     go None is e = absurd (let f : None ≡ Some items = e in cc)
     go (Some x) is e =
-        let r = option_cons_some x (machines S (composed S F j x.pages x.table x.version) (j + 1) path) items e in
+        let r = option_cons_some x (machines S (compose S F j x.pages x.table x.version) (j + 1) path) items e in
         record { head = x; rest = r.0; child = is; others = r.1; whole = r.2 }
 
 -- a machine and its children make a path
-pub begins_from : (S : List ℕ) (F : List Slot) (j s : ℕ) (path : List ℕ) (x : Item) (rest : List Item) → child_of S F s ≡ Some x → machines S (composed S F j x.pages x.table x.version) (j + 1) path ≡ Some rest → machines S F j (s ∷ path) ≡ Some (x ∷ rest)
+pub begins_from : (S : List ℕ) (F : List Slot) (j s : ℕ) (path : List ℕ) (x : Item) (rest : List Item) → child_of S F s ≡ Some x → machines S (compose S F j x.pages x.table x.version) (j + 1) path ≡ Some rest → machines S F j (s ∷ path) ≡ Some (x ∷ rest)
 unfolding machines
 begins_from S F j s path x rest is e =
-    ap (λ (o : Option Item). option_and_then (λ (y : Item). option_cons y (machines S (composed S F j y.pages y.table y.version) (j + 1) path)) o) is
+    ap (λ (o : Option Item). option_and_then (λ (y : Item). option_cons y (machines S (compose S F j y.pages y.table y.version) (j + 1) path)) o) is
     ∙ ap (option_cons x) e
 
 pub parts : (S : List ℕ) (F : List Slot) (j : ℕ) (p q : List ℕ) (items : List Item) → machines S F j (p ++ q) ≡ Some items → Parts S F j p q items
@@ -72,20 +72,20 @@ parts S F j [] q items e = record {
 parts S F j (s ∷ p) q items e =
     let b = begins_with S F j s (p ++ q) items e in
     let x : Item = b.head in
-    let r = parts S (composed S F j x.pages x.table x.version) (j + 1) p q b.rest b.others in
+    let r = parts S (compose S F j x.pages x.table x.version) (j + 1) p q b.rest b.others in
     let level : j + suc (length r.first) ≡ j + 1 + length r.first = omega arith in
     record {
       first = x ∷ r.first;
       second = r.second;
       before = begins_from S F j s p x r.first b.child r.before;
-      after = ap (λ (k : ℕ). machines S (along S (composed S F j x.pages x.table x.version) (j + 1) r.first) k q) level ∙ r.after;
+      after = ap (λ (k : ℕ). machines S (along S (compose S F j x.pages x.table x.version) (j + 1) r.first) k q) level ∙ r.after;
       whole = sym b.whole ∙ ap (λ (xs : List Item). x ∷ xs) r.whole;
       long = ap suc r.long;
     }
 
 -- a map goes by pages, table and version
-composed_alike : (T : List ℕ) (G : List Slot) (j n n' t t' v v' : ℕ) → n ≡ n' → t ≡ t' → v ≡ v' → composed T G j n t v ≡ composed T G j n' t' v'
-composed_alike T G j n n' t t' v v' p q r = λ i. composed T G j (p i) (q i) (r i)
+composed_alike : (T : List ℕ) (G : List Slot) (j n n' t t' v v' : ℕ) → n ≡ n' → t ≡ t' → v ≡ v' → compose T G j n t v ≡ compose T G j n' t' v'
+composed_alike T G j n n' t t' v v' p q r = λ i. compose T G j (p i) (q i) (r i)
 
 -- the child that T has where S has the child x: the same pages, table and version
 pub record Twin (o : Option Item) (x : Item) : Type 0 where
@@ -146,32 +146,32 @@ module _ (k : ℕ) (F : List Slot) (S T : List ℕ) (below : ShutBelow k F) (sam
       let t = child_twin H G s x like b.child in
       let y : Item = t.twin in
       let level : j + k + 1 ≡ j + 1 + k = omega arith in
-      let map_is : composed T G j x.pages x.table x.version ≡ composed T G j y.pages y.table y.version =
+      let map_is : compose T G j x.pages x.table x.version ≡ compose T G j y.pages y.table y.version =
       composed_alike T G j x.pages y.pages x.table y.table x.version y.version t.pages t.table t.version in
-      let deeper : MapLike k F (composed S H (j + k) x.pages x.table x.version) (composed T G j y.pages y.table y.version) =
-      subst (λ (M : List Slot). MapLike k F (composed S H (j + k) x.pages x.table x.version) M) map_is
+      let deeper : MapLike k F (compose S H (j + k) x.pages x.table x.version) (compose T G j y.pages y.table y.version) =
+      subst (λ (M : List Slot). MapLike k F (compose S H (j + k) x.pages x.table x.version) M) map_is
       (composed_like k F S T below agree H G like j x.pages x.table x.version t.bound) in
-      let sizes : length (composed S H (j + k) x.pages x.table x.version) ≡ length (composed T G j y.pages y.table y.version) =
+      let sizes : length (compose S H (j + k) x.pages x.table x.version) ≡ length (compose T G j y.pages y.table y.version) =
       length-composed S H (j + k) x.pages x.table x.version ∙ t.pages ∙ sym (length-composed T G j y.pages y.table y.version) in
-      let r = twins_of (composed S H (j + k) x.pages x.table x.version) (composed T G j y.pages y.table y.version) (j + 1) path b.rest sizes deeper
-      (ap (λ (l : ℕ). machines S (composed S H (j + k) x.pages x.table x.version) l path) (sym level) ∙ b.others) in
+      let r = twins_of (compose S H (j + k) x.pages x.table x.version) (compose T G j y.pages y.table y.version) (j + 1) path b.rest sizes deeper
+      (ap (λ (l : ℕ). machines S (compose S H (j + k) x.pages x.table x.version) l path) (sym level) ∙ b.others) in
       subst (Twins H G j (s ∷ path)) b.whole record {
         twins = y ∷ r.twins;
         there = begins_from T G j s path y r.twins t.there r.there;
-        size = subst (λ (l : ℕ). length (along S (composed S H (j + k) x.pages x.table x.version) l b.rest) ≡ length (along T (composed T G j y.pages y.table y.version) (j + 1) r.twins)) (sym level) r.size;
-        like = subst (λ (l : ℕ). MapLike k F (along S (composed S H (j + k) x.pages x.table x.version) l b.rest) (along T (composed T G j y.pages y.table y.version) (j + 1) r.twins)) (sym level) r.like;
+        size = subst (λ (l : ℕ). length (along S (compose S H (j + k) x.pages x.table x.version) l b.rest) ≡ length (along T (compose T G j y.pages y.table y.version) (j + 1) r.twins)) (sym level) r.size;
+        like = subst (λ (l : ℕ). MapLike k F (along S (compose S H (j + k) x.pages x.table x.version) l b.rest) (along T (compose T G j y.pages y.table y.version) (j + 1) r.twins)) (sym level) r.like;
       }
 
-map_of_some : (S path : List ℕ) (F : List Slot) → map_of S path ≡ Some F → (items : List Item) × (pinned S path ≡ Some items) × (map_along S items ≡ F)
-map_of_some S path F e = go (pinned S path) refl e
+map_of_some : (S path : List ℕ) (F : List Slot) → map_of S path ≡ Some F → (items : List Item) × (pin_of S path ≡ Some items) × (map_along S items ≡ F)
+map_of_some S path F e = go (pin_of S path) refl e
   where
-    go : (o : Option (List Item)) → pinned S path ≡ o → option_map (map_along S) o ≡ Some F → (items : List Item) × (pinned S path ≡ Some items) × (map_along S items ≡ F)
+    go : (o : Option (List Item)) → pin_of S path ≡ o → option_map (map_along S) o ≡ Some F → (items : List Item) × (pin_of S path ≡ Some items) × (map_along S items ≡ F)
     go None is f = absurd (let h : None ≡ Some F = f in cc)
     go (Some items) is f = (items, is, same_Some (map_along S items) F f)
 
 -- from the end of a path on
 pub from_here : (S T : List ℕ) (F : List Slot) (k : ℕ) (q : List ℕ) (ys : List Item) → ShutBelow k F → OpensSame F → Agree F S T → length F ≡ page_count T → machines S F k q ≡ Some ys → (G : List Slot) × (map_of T q ≡ Some G) × (length (along S F k ys) ≡ length G) × MapLike k F (along S F k ys) G
-unfolding map_along pinned
+unfolding map_along pin_of
 from_here S T F k q ys below same agree pages e =
     let level : 0 + k ≡ k = omega arith in
     let like : MapLike k F F (identity (page_count T)) = subst (λ (n : ℕ). MapLike k F F (identity n)) pages (identity_like k F) in
@@ -185,7 +185,7 @@ from_here S T F k q ys below same agree pages e =
 
 -- the whole path, cut
 joined : (S : List ℕ) (p q : List ℕ) (H : List Slot) (items : List Item) → map_along S items ≡ H → Parts S (identity (page_count S)) 0 p q items → (F : List Slot) × (G : List Slot) × (map_of S p ≡ Some F) × (map_of (seen S F) q ≡ Some G) × (length H ≡ length G) × MapLike (length p) F H G
-unfolding map_along pinned
+unfolding map_along pin_of
 joined S p q H items is r =
     let F : List Slot = map_along S r.first in
     let level : 0 + length r.first ≡ length p = omega (arith, r.long) in
@@ -207,7 +207,7 @@ joined S p q H items is r =
     )
 
 pub associative : (S p q : List ℕ) (H : List Slot) → map_of S (p ++ q) ≡ Some H → (F : List Slot) × (G : List Slot) × (map_of S p ≡ Some F) × (map_of (seen S F) q ≡ Some G) × (length H ≡ length G) × MapLike (length p) F H G
-unfolding pinned
+unfolding pin_of
 associative S p q H e =
     let all = map_of_some S (p ++ q) H e in
     joined S p q H all.0 all.2 (parts S (identity (page_count S)) 0 p q all.0 all.1)

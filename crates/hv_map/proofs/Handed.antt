@@ -9,7 +9,7 @@ use Rattle.hv_store.specs.declared.access.Slot.{Slot}
 use Rattle.hv_store.specs.declared.access.Way.{Way}
 use Rattle.hv_store.specs.declared.access.Way.TheVariants.{Open, Shut}
 use Rattle.hv_store.specs.Access.{way_for}
-use Rattle.hv_map.specs.Compose.{Looked, Named, Stopped, present, look, page_named, table_of, word_in, entry_of, no_write, no_fetch, every, granted, placed, slot_of, reading, composed_slot, composed}
+use Rattle.hv_map.specs.Compose.{Looked, Named, Stopped, present, look, page_named, table_of, word_in, entry_of, no_write, no_fetch, every, granted, placed, slot_of, reading, compose_slot, compose}
 use Rattle.hv_map.specs.Carried.{Opens, ShutAt, OpensSame}
 use Rattle.hv_map.proofs.Slots.{composed_at}
 
@@ -71,11 +71,11 @@ module _ (S : List ℕ) (F : List Slot) (j : ℕ) (R : Slot → Type 0) (facts :
   slot_holds v i (Named e) h = placed_holds v i e (field_of e 12 20) (slice_get F (field_of e 12 20)) refl
   slot_holds v i (Stopped way) h = h
 
-  pub handed_slot : (t v i : ℕ) → R (composed_slot S F j t v i)
-  unfolding composed_slot
+  pub handed_slot : (t v i : ℕ) → R (compose_slot S F j t v i)
+  unfolding compose_slot
   handed_slot t v i = slot_holds v i (entry_of S (reading F) j t v i) (word_stops i (table_of S (reading F) j t v i) (table_stops t v i))
 
-  pub handed : (n t v i : ℕ) (s : Slot) → slice_get (composed S F j n t v) i ≡ Some s → R s
+  pub handed : (n t v i : ℕ) (s : Slot) → slice_get (compose S F j n t v) i ≡ Some s → R s
   handed n t v i s e = subst R (sym (composed_at S F j n t v i s e)) (handed_slot t v i)
 
 -- one way that is shut for every access opens nothing
@@ -116,7 +116,7 @@ module _ (F : List Slot) (j : ℕ) where
     kept = λ q v e i s is. granted_opens q v e i s is;
   }
 
-  pub composed_opens : (S : List ℕ) (n t v i : ℕ) (s : Slot) (a : Access) (x : ℕ) → slice_get (composed S F j n t v) i ≡ Some s → way_for s a ≡ Open x → Opens F a x
+  pub composed_opens : (S : List ℕ) (n t v i : ℕ) (s : Slot) (a : Access) (x : ℕ) → slice_get (compose S F j n t v) i ≡ Some s → way_for s a ≡ Open x → Opens F a x
   unfolding IsOpenBefore
   composed_opens S n t v i s a x e = handed S F j IsOpenBefore opens_facts n t v i s e a x
 
@@ -137,7 +137,7 @@ module _ (F : List Slot) (j : ℕ) where
     kept = λ q v e i s is. granted_same same q v e i s is;
   }
 
-  pub composed_same : (S : List ℕ) (n t v : ℕ) → OpensSame F → OpensSame (composed S F j n t v)
+  pub composed_same : (S : List ℕ) (n t v : ℕ) → OpensSame F → OpensSame (compose S F j n t v)
   unfolding IsSame
   composed_same S n t v same i s a x e = handed S F j IsSame (same_facts same) n t v i s e a x
 
@@ -167,6 +167,6 @@ module _ (F : List Slot) (j : ℕ) where
     kept = λ q v e i s is. granted_level q v e i s is;
   }
 
-  pub composed_level : (S : List ℕ) (n t v i : ℕ) (s : Slot) (a : Access) (l c p : ℕ) (w : Option ℕ) → slice_get (composed S F j n t v) i ≡ Some s → way_for s a ≡ Shut l c p w → (l ≡ j) ⊎ ShutAt F l
+  pub composed_level : (S : List ℕ) (n t v i : ℕ) (s : Slot) (a : Access) (l c p : ℕ) (w : Option ℕ) → slice_get (compose S F j n t v) i ≡ Some s → way_for s a ≡ Shut l c p w → (l ≡ j) ⊎ ShutAt F l
   unfolding IsLevelled
   composed_level S n t v i s a l c p w e = handed S F j IsLevelled level_facts n t v i s e a l c p w

@@ -13,7 +13,7 @@ use Rattle.hv_store.specs.declared.access.Slot.{Slot}
 use Rattle.hv_store.specs.Access.{identity, open_at}
 use Rattle.hv_store.proofs.Identity.{length-identity, slice_get-identity}
 use Rattle.hv_map.specs.Item.{Item}
-use Rattle.hv_map.specs.Compose.{composed, composed_slot, reading, entry_of, slot_of}
+use Rattle.hv_map.specs.Compose.{compose, compose_slot, reading, entry_of, slot_of}
 use Rattle.hv_map.specs.Chain.{along, map_along}
 use Rattle.hv_map.specs.Levels.{map_at, reads_at, reads_bound, has_directory, has_table_alone}
 use Rattle.hv_map.proofs.Slots.{along-snoc, length-composed, slice_get-composed}
@@ -29,7 +29,7 @@ unfolding map_at
 map_at-length S items = ap (map_along S) (take-length items)
 
 -- the map one level deeper is that of a child
-pub map_at-suc : (S : List ℕ) (items : List Item) (k : ℕ) (x : Item) → slice_get items k ≡ Some x → map_at S items (k + 1) ≡ composed S (map_at S items k) k x.pages x.table x.version
+pub map_at-suc : (S : List ℕ) (items : List Item) (k : ℕ) (x : Item) → slice_get items k ≡ Some x → map_at S items (k + 1) ≡ compose S (map_at S items k) k x.pages x.table x.version
 unfolding map_at map_along
 map_at-suc S items k x is =
     let inside : k < length items = slice_get_within items k x is in
@@ -38,7 +38,7 @@ map_at-suc S items k x is =
     let level : 0 + length (take k items) ≡ k = omega (arith, length-take-le k items (omega arith)) in
     ap (along S (identity (page_count S)) 0) more
     ∙ along-snoc S (identity (page_count S)) 0 (take k items) x
-    ∙ ap (λ (j : ℕ). composed S (along S (identity (page_count S)) 0 (take k items)) j x.pages x.table x.version) level
+    ∙ ap (λ (j : ℕ). compose S (along S (identity (page_count S)) 0 (take k items)) j x.pages x.table x.version) level
 
 -- how many pages the machines have
 pub pages_at-zero : (S : List ℕ) (items : List Item) (k : ℕ) → k ≡ 0 → length (map_at S items k) ≡ page_count S
@@ -64,7 +64,7 @@ pub slot_at-suc : (S : List ℕ) (items : List Item) (k j i : ℕ) (x : Item)
     → j ≡ k + 1
     → i < length (map_at S items j)
     → slice_get (map_at S items j) i ≡ Some (slot_of (map_at S items k) k x.version i (entry_of S (reading (map_at S items k)) k x.table x.version i))
-unfolding composed_slot
+unfolding compose_slot
 slot_at-suc S items k j i x is e h =
     let inside : i < x.pages = omega (arith, pages_at-suc S items k j x is e) in
     ap (λ (n : ℕ). slice_get (map_at S items n) i) e

@@ -12,7 +12,7 @@ use Rattle.hv_store.specs.declared.access.Slot.{Slot}
 use Rattle.hv_store.specs.declared.access.Way.{Way}
 use Rattle.hv_store.specs.declared.access.Way.TheVariants.{Open, Shut}
 use Rattle.hv_store.specs.Access.{way_for}
-use Rattle.hv_map.specs.Compose.{Looked, Named, Stopped, present, look, page_named, table_of, word_in, entry_of, no_write, no_fetch, every, placed, slot_of, reading, composed_slot, composed}
+use Rattle.hv_map.specs.Compose.{Looked, Named, Stopped, present, look, page_named, table_of, word_in, entry_of, no_write, no_fetch, every, placed, slot_of, reading, compose_slot, compose}
 use Rattle.hv_map.specs.Carried.{IsBelow, IsCarried, WayLike, SlotLike, MapLike, ShutBelow, Agree}
 use Rattle.hv_map.proofs.Slots.{slice_get-composed, length-composed}
 
@@ -143,21 +143,21 @@ module _ (k : ℕ) (F : List Slot) (S T : List ℕ) (below : ShutBelow k F) (agr
     slot_like j v i (Stopped way) (Named e) (inr same) a = absurd same
     slot_like j v i (Stopped h) (Stopped g) (inr same) a = inr (raised_like h g a same)
 
-    composed_slot_like : (j t v i : ℕ) → i / 1024 < 1024 → (a : Access) → WayLike k F a (way_for (composed_slot S H (j + k) t v i) a) (way_for (composed_slot T G j t v i) a)
-    unfolding composed_slot
+    composed_slot_like : (j t v i : ℕ) → i / 1024 < 1024 → (a : Access) → WayLike k F a (way_for (compose_slot S H (j + k) t v i) a) (way_for (compose_slot T G j t v i) a)
+    unfolding compose_slot
     composed_slot_like j t v i lt = slot_like j v i (entry_of S (reading H) (j + k) t v i) (entry_of T (reading G) j t v i) (entry_like j t v i lt)
 
-    pub composed_like : (j n t v : ℕ) → n ≤ 1048576 → MapLike k F (composed S H (j + k) n t v) (composed T G j n t v)
+    pub composed_like : (j n t v : ℕ) → n ≤ 1048576 → MapLike k F (compose S H (j + k) n t v) (compose T G j n t v)
     composed_like j n t v bound i = elim (cases_lt i n) [
       | inl h ↦
           let lt : i / 1024 < 1024 = omega arith in
-          both_at (slice_get (composed S H (j + k) n t v) i) (slice_get (composed T G j n t v) i) (Some (composed_slot S H (j + k) t v i)) (Some (composed_slot T G j t v i))
+          both_at (slice_get (compose S H (j + k) n t v) i) (slice_get (compose T G j n t v) i) (Some (compose_slot S H (j + k) t v i)) (Some (compose_slot T G j t v i))
           (slice_get-composed S H (j + k) n t v i h) (slice_get-composed T G j n t v i h) (composed_slot_like j t v i lt)
       | inr h ↦
-          let past : length (composed S H (j + k) n t v) ≤ i = omega (arith, length-composed S H (j + k) n t v) in
-          let past' : length (composed T G j n t v) ≤ i = omega (arith, length-composed T G j n t v) in
-          both_at (slice_get (composed S H (j + k) n t v) i) (slice_get (composed T G j n t v) i) None None
-          (slice_get_past (composed S H (j + k) n t v) i past) (slice_get_past (composed T G j n t v) i past') tt
+          let past : length (compose S H (j + k) n t v) ≤ i = omega (arith, length-composed S H (j + k) n t v) in
+          let past' : length (compose T G j n t v) ≤ i = omega (arith, length-composed T G j n t v) in
+          both_at (slice_get (compose S H (j + k) n t v) i) (slice_get (compose T G j n t v) i) None None
+          (slice_get_past (compose S H (j + k) n t v) i past) (slice_get_past (compose T G j n t v) i past') tt
     ]
       where
         both_at : (o p x y : Option Slot) → o ≡ x → p ≡ y → SlotLike k F x y → SlotLike k F o p

@@ -14,8 +14,8 @@ use Rattle.hv_store.specs.Access.{identity}
 use Rattle.hv_block.specs.declared.Block.{Block}
 use Rattle.hv_block.specs.Block.{Held, block_of}
 use Rattle.hv_map.specs.Item.{Item}
-use Rattle.hv_map.specs.Compose.{composed}
-use Rattle.hv_map.specs.Chain.{along, map_along, child_held, child_through, child_at, child_of, option_cons, machines, pinned}
+use Rattle.hv_map.specs.Compose.{compose}
+use Rattle.hv_map.specs.Chain.{along, map_along, child_held, child_through, child_at, child_of, option_cons, machines, pin_of}
 use Rattle.hv_map.specs.declared.found.Found.{Found}
 use Rattle.hv_map.specs.declared.found.Found.TheVariants.{Child, Malformed, Refused}
 use Rattle.hv_map.specs.Found.{found_in, found_through, found_at, found_on, item_of}
@@ -73,8 +73,8 @@ before_cons xs x (Some ys) = ap Some (sym (append_assoc xs (x ∷ []) ys))
 unfoldable pub rest_of : List ℕ → List Item → List ℕ → Option (List Item)
 rest_of S chain path = before chain (machines S (map_along S chain) (length chain) path)
 
-pub rest_all : (S path : List ℕ) → rest_of S [] path ≡ pinned S path
-unfolding rest_of before pinned map_along along
+pub rest_all : (S path : List ℕ) → rest_of S [] path ≡ pin_of S path
+unfolding rest_of before pin_of map_along along
 rest_all S path = same (machines S (identity (page_count S)) 0 path)
   where
     same : (o : Option (List Item)) → before [] o ≡ o
@@ -84,13 +84,13 @@ rest_all S path = same (machines S (identity (page_count S)) 0 path)
 pub rest_none : (S : List ℕ) (chain : List Item) (s : ℕ) (path : List ℕ) → child_of S (map_along S chain) s ≡ None → rest_of S chain (s ∷ path) ≡ None
 unfolding rest_of before machines
 rest_none S chain s path e =
-    ap (λ (o : Option Item). before chain (option_and_then (λ (x : Item). option_cons x (machines S (composed S (map_along S chain) (length chain) x.pages x.table x.version) (length chain + 1) path)) o)) e
+    ap (λ (o : Option Item). before chain (option_and_then (λ (x : Item). option_cons x (machines S (compose S (map_along S chain) (length chain) x.pages x.table x.version) (length chain + 1) path)) o)) e
 
 pub rest_some : (S : List ℕ) (chain : List Item) (s : ℕ) (path : List ℕ) (x : Item) → child_of S (map_along S chain) s ≡ Some x → rest_of S chain (s ∷ path) ≡ rest_of S (chain ++ x ∷ []) path
 unfolding rest_of machines map_along
 rest_some S chain s path x e =
-    ap (λ (o : Option Item). before chain (option_and_then (λ (y : Item). option_cons y (machines S (composed S (map_along S chain) (length chain) y.pages y.table y.version) (length chain + 1) path)) o)) e
-    ∙ before_cons chain x (machines S (composed S (map_along S chain) (length chain) x.pages x.table x.version) (length chain + 1) path)
+    ap (λ (o : Option Item). before chain (option_and_then (λ (y : Item). option_cons y (machines S (compose S (map_along S chain) (length chain) y.pages y.table y.version) (length chain + 1) path)) o)) e
+    ∙ before_cons chain x (machines S (compose S (map_along S chain) (length chain) x.pages x.table x.version) (length chain + 1) path)
     ∙ ap₂ (λ (F : List Slot) (j : ℕ). before (chain ++ x ∷ []) (machines S F j path)) (sym grown) longer
   where
     longer : length chain + 1 ≡ length (chain ++ x ∷ [])
@@ -99,10 +99,10 @@ rest_some S chain s path x e =
     level : 0 + length chain ≡ length chain
     level = omega arith
 
-    grown : along S (identity (page_count S)) 0 (chain ++ x ∷ []) ≡ composed S (along S (identity (page_count S)) 0 chain) (length chain) x.pages x.table x.version
+    grown : along S (identity (page_count S)) 0 (chain ++ x ∷ []) ≡ compose S (along S (identity (page_count S)) 0 chain) (length chain) x.pages x.table x.version
     grown =
         along-snoc S (identity (page_count S)) 0 chain x
-        ∙ ap (λ (j : ℕ). composed S (along S (identity (page_count S)) 0 chain) j x.pages x.table x.version) level
+        ∙ ap (λ (j : ℕ). compose S (along S (identity (page_count S)) 0 chain) j x.pages x.table x.version) level
 
 pub rest_end : (S : List ℕ) (chain : List Item) → rest_of S chain [] ≡ Some chain
 unfolding rest_of machines before

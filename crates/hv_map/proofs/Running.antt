@@ -7,8 +7,8 @@ use Rattle.hv_store.specs.declared.access.Slot.{Slot}
 use Rattle.hv_store.specs.Access.{identity}
 use Rattle.hv_block.specs.Block.{regs_at}
 use Rattle.hv_map.specs.Item.{Item}
-use Rattle.hv_map.specs.Compose.{composed}
-use Rattle.hv_map.specs.Chain.{map_along, child_of, machines, pinned, map_of, child_next, run_on, running, running_path, depth_limit}
+use Rattle.hv_map.specs.Compose.{compose}
+use Rattle.hv_map.specs.Chain.{map_along, child_of, machines, pin_of, map_of, child_next, run_on, running, running_path, depth_limit}
 use Rattle.hv_map.proofs.Assoc.{begins_from}
 use Rattle.hv_map.proofs.Words.{follows}
 
@@ -30,10 +30,10 @@ pins_more : (n : ℕ) (S : List ℕ) (F : List Slot) (j : ℕ) (r : Regs) (o : O
 unfolding machines
 pins_more n S F j r None e deeper = record { items = []; there = refl; short = omega arith }
 pins_more n S F j r (Some x) e deeper =
-    let p = deeper (composed S F j x.pages x.table x.version) (j + 1) (regs_at S x.block) in
+    let p = deeper (compose S F j x.pages x.table x.version) (j + 1) (regs_at S x.block) in
     record {
       items = x ∷ p.items;
-      there = begins_from S F j x.syllable (running n S (composed S F j x.pages x.table x.version) (j + 1) (regs_at S x.block)) x p.items (next_child S F r.next x e) p.there;
+      there = begins_from S F j x.syllable (running n S (compose S F j x.pages x.table x.version) (j + 1) (regs_at S x.block)) x p.items (next_child S F r.next x e) p.there;
       short = omega (arith, p.short);
     }
 
@@ -43,7 +43,7 @@ running_pins zero S F j r = record { items = []; there = refl; short = omega ari
 running_pins (suc n) S F j r = pins_more n S F j r (child_next S F r.next) refl (λ G l c. running_pins n S G l c)
 
 pub running_law : (S : List ℕ) (r : Regs) → (F : List Slot) × (map_of S (running_path S r) ≡ Some F) × (length (running_path S r) ≤ depth_limit)
-unfolding pinned
+unfolding pin_of
 running_law S r =
     let p = running_pins depth_limit S (identity (page_count S)) 0 r in
     (map_along S p.items, ap (option_map (map_along S)) p.there, p.short)

@@ -1,4 +1,4 @@
--- The way of a page found from the inside out is the one that the map has, which is composed from the outside in.
+-- The way of a page found from the inside out is the one that the map has, which is compose from the outside in.
 use Rattle.std.proofs.Common.{◌≡◌, ℕ, ◌+◌, ◌/◌, ◌%◌, ◌<◌, ◌≤◌, inl, inr, Bool, cond, ◌==◌, List, [], ◌∷◌, ◌++◌, length, Option, Some, None, refl, ap, ◌∙◌, sym, subst, arith, slice_get, get_or}
 use Rattle.std.specs.Prelude.{reverse}
 use Rattle.std.specs.Option.{option_map}
@@ -15,8 +15,8 @@ use Rattle.hv_store.specs.declared.access.Way.TheVariants.{Open, Shut}
 use Rattle.hv_store.specs.Access.{way_for, identity, open_at}
 use Rattle.hv_store.proofs.Identity.{length-identity, slice_get-identity}
 use Rattle.hv_map.specs.Item.{Item}
-use Rattle.hv_map.specs.Compose.{Looked, Named, Stopped, look, page_named, table_of, word_in, entry_of, no_write, no_fetch, every, granted, placed, slot_of, reading, composed_slot, composed}
-use Rattle.hv_map.specs.Chain.{along, map_along, pinned, map_of}
+use Rattle.hv_map.specs.Compose.{Looked, Named, Stopped, look, page_named, table_of, word_in, entry_of, no_write, no_fetch, every, granted, placed, slot_of, reading, compose_slot, compose}
+use Rattle.hv_map.specs.Chain.{along, map_along, pin_of, map_of}
 use Rattle.hv_map.specs.Trail.{pages_of, refuses, refusal_cause, go_out, outer_reading, step_out, trail, trail_of}
 use Rattle.hv_map.proofs.Slots.{along-snoc, length-composed, composed_at}
 
@@ -81,8 +81,8 @@ module _ (F : List Slot) (m : ℕ) (outer : ℕ → Access → Way) (gives : Giv
         ∙ sym (ap (λ (b : Bool). cond b (cond (refuses v e a) (Shut j (refusal_cause a) i None) (outer (field_of e 12 20) a)) (Shut j 3 i None)) (le-ltb (field_of e 12 20) m h))
   ]
 
-  pub composed_gives : (S : List ℕ) (j : ℕ) (x : Item) → Gives (composed S F j x.pages x.table x.version) x.pages (step_out S outer m j x)
-  unfolding composed_slot
+  pub composed_gives : (S : List ℕ) (j : ℕ) (x : Item) → Gives (compose S F j x.pages x.table x.version) x.pages (step_out S outer m j x)
+  unfolding compose_slot
   composed_gives S j x = record {
     size = length-composed S F j x.pages x.table x.version;
     ways = λ i s a is.
@@ -112,10 +112,10 @@ trail_gives S P [] = identity_gives P
 trail_gives S P (x ∷ xs) =
     let turned : reverse (x ∷ xs) ≡ reverse xs ++ x ∷ [] = reverse-append (x ∷ []) xs in
     let level : 0 + length (reverse xs) ≡ length xs = omega (arith, length-reverse xs) in
-    let is : along S (identity P) 0 (reverse (x ∷ xs)) ≡ composed S (along S (identity P) 0 (reverse xs)) (length xs) x.pages x.table x.version =
+    let is : along S (identity P) 0 (reverse (x ∷ xs)) ≡ compose S (along S (identity P) 0 (reverse xs)) (length xs) x.pages x.table x.version =
     ap (along S (identity P) 0) turned
     ∙ along-snoc S (identity P) 0 (reverse xs) x
-    ∙ ap (λ (k : ℕ). composed S (along S (identity P) 0 (reverse xs)) k x.pages x.table x.version) level in
+    ∙ ap (λ (k : ℕ). compose S (along S (identity P) 0 (reverse xs)) k x.pages x.table x.version) level in
     subst (λ (F : List Slot). Gives F x.pages (step_out S (trail S P xs) (pages_of P xs) (length xs) x)) (sym is)
     (composed_gives (along S (identity P) 0 (reverse xs)) (pages_of P xs) (trail S P xs) (trail_gives S P xs) S (length xs) x)
 
@@ -127,7 +127,7 @@ trail_is S items i s a is =
     (trail_gives S (page_count S) (reverse items)).ways i s a there
 
 pub trail_law : (S path : List ℕ) (F : List Slot) (i : ℕ) (s : Slot) (a : Access) → map_of S path ≡ Some F → slice_get F i ≡ Some s → trail_of S path i a ≡ Some (way_for s a)
-trail_law S path F i s a = go (pinned S path)
+trail_law S path F i s a = go (pin_of S path)
   where
     go : (o : Option (List Item)) → option_map (map_along S) o ≡ Some F → slice_get F i ≡ Some s → option_map (λ (items : List Item). trail S (page_count S) (reverse items) i a) o ≡ Some (way_for s a)
     go None e is = absurd (let f : None ≡ Some F = e in cc)

@@ -13,7 +13,7 @@ use Rattle.hv_store.specs.declared.access.Way.TheVariants.{Open, Shut}
 use Rattle.hv_store.specs.Access.{way_for, identity, open_at}
 use Rattle.hv_store.proofs.Identity.{length-identity, slice_get-identity}
 use Rattle.hv_map.specs.Item.{Item}
-use Rattle.hv_map.specs.Compose.{composed}
+use Rattle.hv_map.specs.Compose.{compose}
 use Rattle.hv_map.specs.Chain.{along}
 use Rattle.hv_map.specs.Seen.{words_of, seen}
 use Rattle.hv_map.specs.Carried.{WayLike, SlotLike, MapLike, ShutBelow, OpensSame, Agree}
@@ -82,7 +82,7 @@ pub identity_same : (P : ℕ) → OpensSame (identity P)
 identity_same P y s a x is e = identity_way P y s Read is ∙ sym (identity_way P y s a is) ∙ e
 
 -- a child's map is shut at most at its parent's level
-pub composed_below : (S : List ℕ) (F : List Slot) (j n t v : ℕ) → ShutBelow j F → ShutBelow (j + 1) (composed S F j n t v)
+pub composed_below : (S : List ℕ) (F : List Slot) (j n t v : ℕ) → ShutBelow j F → ShutBelow (j + 1) (compose S F j n t v)
 composed_below S F j n t v below y s a l c p w is e = elim (composed_level F j S n t v y s a l c p w is e) [
   | inl h ↦ omega arith
   | inr h ↦
@@ -95,13 +95,13 @@ unfolding along
 along_below S F j [] below = let e : j ≡ j + 0 = omega arith in subst (λ (k : ℕ). ShutBelow k F) e below
 along_below S F j (x ∷ xs) below =
     let e : j + 1 + length xs ≡ j + suc (length xs) = omega arith in
-    subst (λ (k : ℕ). ShutBelow k (along S (composed S F j x.pages x.table x.version) (j + 1) xs)) e
-    (along_below S (composed S F j x.pages x.table x.version) (j + 1) xs (composed_below S F j x.pages x.table x.version below))
+    subst (λ (k : ℕ). ShutBelow k (along S (compose S F j x.pages x.table x.version) (j + 1) xs)) e
+    (along_below S (compose S F j x.pages x.table x.version) (j + 1) xs (composed_below S F j x.pages x.table x.version below))
 
 pub along_same : (S : List ℕ) (F : List Slot) (j : ℕ) (xs : List Item) → OpensSame F → OpensSame (along S F j xs)
 unfolding along
 along_same S F j [] same = same
-along_same S F j (x ∷ xs) same = along_same S (composed S F j x.pages x.table x.version) (j + 1) xs (composed_same F j S x.pages x.table x.version same)
+along_same S F j (x ∷ xs) same = along_same S (compose S F j x.pages x.table x.version) (j + 1) xs (composed_same F j S x.pages x.table x.version same)
 
 -- two slots that are like each other, where they are read from two maps
 pub slots_at : (k : ℕ) (F : List Slot) (o p x y : Option Slot) → o ≡ x → p ≡ y → SlotLike k F x y → SlotLike k F o p

@@ -8,7 +8,7 @@ use Rattle.hv_store.specs.declared.access.Way.TheVariants.{Open, Shut}
 use Rattle.hv_block.specs.Block.{Held, block_of}
 use Rattle.hv_block.proofs.Blocks.{block_holds}
 use Rattle.hv_map.specs.Item.{Item}
-use Rattle.hv_map.specs.Compose.{composed}
+use Rattle.hv_map.specs.Compose.{compose}
 use Rattle.hv_map.specs.Chain.{along, child_held, child_through, child_at, child_of, machines}
 use Rattle.hv_map.specs.Words.{EachItem, EachChain, IsChild, Chained, syllables}
 use Rattle.hv_map.proofs.Agree.{composed_agrees}
@@ -29,14 +29,14 @@ module _ (P Q : ℕ → ℕ → Type 0) (step : (g w : ℕ) → P g w → Q g w)
 
   pub each_chain : (S : List ℕ) (F : List Slot) (j : ℕ) (xs : List Item) → EachChain P S F j xs → EachChain Q S F j xs
   each_chain S F j [] each = tt
-  each_chain S F j (x ∷ xs) each = (each_item S F j x each.0, each_chain S (composed S F j x.pages x.table x.version) (j + 1) xs each.1)
+  each_chain S F j (x ∷ xs) each = (each_item S F j x each.0, each_chain S (compose S F j x.pages x.table x.version) (j + 1) xs each.1)
 
 -- the map along the machines depends on these words alone
 pub along_agrees : (S A : List ℕ) (F : List Slot) (j : ℕ) (xs : List Item) → EachChain (λ g w. word_at S g w ≡ word_at A g w) S F j xs → along S F j xs ≡ along A F j xs
 unfolding along
 along_agrees S A F j [] each = refl
 along_agrees S A F j (x ∷ xs) each =
-    along_agrees S A (composed S F j x.pages x.table x.version) (j + 1) xs each.1
+    along_agrees S A (compose S F j x.pages x.table x.version) (j + 1) xs each.1
     ∙ ap (λ (G : List Slot). along A G (j + 1) xs) (composed_agrees S A F j x.pages x.table x.version each.0.words)
 
 -- and the machines stay where they are
@@ -53,7 +53,7 @@ chained_agrees S A F j (x ∷ xs) each chained =
         version = sym each.0.version ∙ c.version;
       },
       subst (λ (G : List Slot). Chained A G (j + 1) xs) (composed_agrees S A F j x.pages x.table x.version each.0.words)
-          (chained_agrees S A (composed S F j x.pages x.table x.version) (j + 1) xs each.1 chained.1),
+          (chained_agrees S A (compose S F j x.pages x.table x.version) (j + 1) xs each.1 chained.1),
     )
 
 -- the child that is found on a page is on it, and has the size that a block can have
@@ -99,6 +99,6 @@ machines_chained S F j [] items e = subst (λ (xs : List Item). (syllables xs �
 machines_chained S F j (s ∷ path) items e =
     let b = begins_with S F j s path items e in
     let f = follows S F s b.head b.child in
-    let r = machines_chained S (composed S F j b.head.pages b.head.table b.head.version) (j + 1) path b.rest b.others in
+    let r = machines_chained S (compose S F j b.head.pages b.head.table b.head.version) (j + 1) path b.rest b.others in
     subst (λ (xs : List Item). (syllables xs ≡ s ∷ path) × Chained S F j xs) b.whole
     (ap (λ (t : ℕ). t ∷ syllables b.rest) f.syllable ∙ ap (λ (p : List ℕ). s ∷ p) r.0, (f.child, r.1))

@@ -7,7 +7,7 @@ use Rattle.hv_store.specs.declared.access.Way.{Way}
 use Rattle.hv_store.specs.declared.access.Way.TheVariants.{Open, Shut}
 use Rattle.hv_store.specs.Access.{identity}
 use Rattle.hv_map.specs.Item.{Item}
-use Rattle.hv_map.specs.Compose.{Looked, Named, Stopped, composed, reading, table_of}
+use Rattle.hv_map.specs.Compose.{Looked, Named, Stopped, compose, reading, table_of}
 use Rattle.hv_map.specs.Chain.{map_along}
 
 abbrev pub has : ℕ → List ℕ → Bool
@@ -56,7 +56,7 @@ directory_of F x = if x.version == 2 then opened_if (reading F x.table) else []
 unfoldable pub tables_along : List ℕ → List Slot → ℕ → List Item → List ℕ
 tables_along S F j [] = []
 tables_along S F j (x ∷ xs) =
-    (directory_of F x ++ tables_of S F j x) ++ tables_along S (composed S F j x.pages x.table x.version) (j + 1) xs
+    (directory_of F x ++ tables_of S F j x) ++ tables_along S (compose S F j x.pages x.table x.version) (j + 1) xs
 
 abbrev pub blocks_of : List Item → List ℕ
 blocks_of items = map (λ (x : Item). x.block) items

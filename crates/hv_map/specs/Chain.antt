@@ -10,7 +10,7 @@ use Rattle.hv_store.specs.declared.access.Way.TheVariants.{Open, Shut}
 use Rattle.hv_store.specs.Access.{identity}
 use Rattle.hv_block.specs.Block.{Held, block_of, regs_at}
 use Rattle.hv_map.specs.Item.{Item}
-use Rattle.hv_map.specs.Compose.{composed}
+use Rattle.hv_map.specs.Compose.{compose}
 
 -- at how deep a level a machine can be
 abbrev pub depth_limit : ℕ
@@ -19,7 +19,7 @@ depth_limit = 8
 -- the map of the machine at the end of the items, where F is the map of the machine before the first, at level j
 unfoldable pub along : List ℕ → List Slot → ℕ → List Item → List Slot
 along S F j [] = F
-along S F j (x ∷ xs) = along S (composed S F j x.pages x.table x.version) (j + 1) xs
+along S F j (x ∷ xs) = along S (compose S F j x.pages x.table x.version) (j + 1) xs
 
 -- the same from the bare machine on
 unfoldable pub map_along : List ℕ → List Item → List Slot
@@ -53,16 +53,16 @@ unfoldable pub machines : List ℕ → List Slot → ℕ → List ℕ → Option
 machines S F j [] = Some []
 machines S F j (s ∷ path) =
     option_and_then
-    (λ (x : Item). option_cons x (machines S (composed S F j x.pages x.table x.version) (j + 1) path))
+    (λ (x : Item). option_cons x (machines S (compose S F j x.pages x.table x.version) (j + 1) path))
     (child_of S F s)
 
 -- the machines on a path from the bare machine on
-unfoldable pub pinned : List ℕ → List ℕ → Option (List Item)
-pinned S path = machines S (identity (page_count S)) 0 path
+unfoldable pub pin_of : List ℕ → List ℕ → Option (List Item)
+pin_of S path = machines S (identity (page_count S)) 0 path
 
 -- the map of the machine at the end of a path, if there is one
 abbrev pub map_of : List ℕ → List ℕ → Option (List Slot)
-map_of S path = option_map (map_along S) (pinned S path)
+map_of S path = option_map (map_along S) (pin_of S path)
 
 -- the child that a machine runs whose next is given, if there is one that can run; next 0 stands for none
 abbrev pub child_next : List ℕ → List Slot → ℕ → Option Item
@@ -72,7 +72,7 @@ child_next S F (suc s) = child_of S F (suc s)
 abbrev pub run_on : (List ℕ → List Slot → ℕ → Regs → List ℕ) → List ℕ → List Slot → ℕ → Option Item → List ℕ
 run_on deeper S F j None = []
 run_on deeper S F j (Some x) =
-    x.syllable ∷ deeper S (composed S F j x.pages x.table x.version) (j + 1) (regs_at S x.block)
+    x.syllable ∷ deeper S (compose S F j x.pages x.table x.version) (j + 1) (regs_at S x.block)
 
 -- The path that is found by following next from the registers r of a machine with the map F, at level j, at most n further.
 unfoldable pub running : ℕ → List ℕ → List Slot → ℕ → Regs → List ℕ

@@ -1,4 +1,4 @@
--- How a child's map is composed of its parent's. The parent's control block says how many pages n the child has, where its
+-- How a child's map is compose of its parent's. The parent's control block says how many pages n the child has, where its
 -- table is, t, and the version v of the block. In version 0 the table begins at the parent's page t; in version 2 the page t
 -- is a directory, each of whose words names a page of the table. Bit 0 of a directory or table word says that it is present,
 -- bits 31:12 have the parent's page. Bit 1 of a table word lets the page be written; in version 2 bit 2 lets it be fetched.
@@ -79,12 +79,12 @@ abbrev pub reading : List Slot → ℕ → Option Way
 reading F page = option_map (λ (s : Slot). s.read) (slice_get F page)
 
 -- the slot of page i of a child with the table t and the version v, where F is the map of its parent, at level j
-unfoldable pub composed_slot : List ℕ → List Slot → ℕ → ℕ → ℕ → ℕ → Slot
-composed_slot S F j t v i = slot_of F j v i (entry_of S (reading F) j t v i)
+unfoldable pub compose_slot : List ℕ → List Slot → ℕ → ℕ → ℕ → ℕ → Slot
+compose_slot S F j t v i = slot_of F j v i (entry_of S (reading F) j t v i)
 
 -- the map of a child with n pages, the table t and the version v, where F is the map of its parent, at level j
-unfoldable pub composed : List ℕ → List Slot → ℕ → ℕ → ℕ → ℕ → List Slot
-composed S F j n t v = map (composed_slot S F j t v) (range_with_len 0 n)
+unfoldable pub compose : List ℕ → List Slot → ℕ → ℕ → ℕ → ℕ → List Slot
+compose S F j n t v = map (compose_slot S F j t v) (range_with_len 0 n)
 
 -- P holds of the words that the map of such a child is read from, each a bare page and a word in it: the table words of
 -- its pages, and in version 2 the directory words that name their tables, as far as F lets the parent read them.

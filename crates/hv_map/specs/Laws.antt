@@ -1,4 +1,4 @@
--- The laws of composed maps, as statements.
+-- The laws of compose maps, as statements.
 use Rattle.std.specs.Prelude.{◌≡◌, ℕ, ◌+◌, ◌^◌, ◌≤◌, ◌⊎◌, List, ◌++◌, length, Option, Some, slice_get}
 use Rattle.hv_word.specs.Storage.{page_count, word_at}
 use Rattle.hv_cpu.specs.Regs.{Regs}
@@ -6,9 +6,9 @@ use Rattle.hv_store.specs.declared.access.Slot.{Slot}
 use Rattle.hv_store.specs.declared.access.Access.{Access}
 use Rattle.hv_store.specs.declared.access.Way.TheVariants.{Open, Shut}
 use Rattle.hv_store.specs.Access.{identity, way_for}
-use Rattle.hv_map.specs.Compose.{composed, EachTableWord}
+use Rattle.hv_map.specs.Compose.{compose, EachTableWord}
 use Rattle.hv_map.specs.Item.{Item}
-use Rattle.hv_map.specs.Chain.{along, depth_limit, map_of, pinned, running_path}
+use Rattle.hv_map.specs.Chain.{along, depth_limit, map_of, pin_of, running_path}
 use Rattle.hv_map.specs.Words.{Chained, EachChain, syllables}
 use Rattle.hv_map.specs.Seen.{seen}
 use Rattle.hv_map.specs.Trail.{trail_of}
@@ -16,32 +16,32 @@ use Rattle.hv_map.specs.Carried.{Agree, MapLike, Opens, OpensSame, ShutAt, ShutB
 
 -- a child's map has as many slots as the child has pages
 abbrev pub SizeLaw : Type 0
-SizeLaw = (S : List ℕ) (F : List Slot) (j n t v : ℕ) → length (composed S F j n t v) ≡ n
+SizeLaw = (S : List ℕ) (F : List Slot) (j n t v : ℕ) → length (compose S F j n t v) ≡ n
 
 -- it is the same for two storages that agree on the words of its table and directory, as far as the parent can read them
 abbrev pub TableLaw : Type 0
 TableLaw =
     (S A : List ℕ) (F : List Slot) (j n t v : ℕ)
     → EachTableWord (λ g w. word_at S g w ≡ word_at A g w) S F j n t v
-    → composed S F j n t v ≡ composed A F j n t v
+    → compose S F j n t v ≡ compose A F j n t v
 
 -- it opens no page, for any access, but those that the parent's map opens for that access
 abbrev pub OpensLaw : Type 0
 OpensLaw =
     (S : List ℕ) (F : List Slot) (j n t v i : ℕ) (s : Slot) (a : Access) (x : ℕ)
-    → slice_get (composed S F j n t v) i ≡ Some s
+    → slice_get (compose S F j n t v) i ≡ Some s
     → way_for s a ≡ Open x
     → Opens F a x
 
 -- where the parent's open ways for writing and fetching are its open ways for reading of the same pages, so are the child's
 abbrev pub SameLaw : Type 0
-SameLaw = (S : List ℕ) (F : List Slot) (j n t v : ℕ) → OpensSame F → OpensSame (composed S F j n t v)
+SameLaw = (S : List ℕ) (F : List Slot) (j n t v : ℕ) → OpensSame F → OpensSame (compose S F j n t v)
 
 -- a way that is shut in it is shut at the parent's level, or at the level of a way that is shut in the parent's map
 abbrev pub LevelLaw : Type 0
 LevelLaw =
     (S : List ℕ) (F : List Slot) (j n t v i : ℕ) (s : Slot) (a : Access) (l c p : ℕ) (w : Option ℕ)
-    → slice_get (composed S F j n t v) i ≡ Some s
+    → slice_get (compose S F j n t v) i ≡ Some s
     → way_for s a ≡ Shut l c p w
     → (l ≡ j) ⊎ ShutAt F l
 
@@ -55,7 +55,7 @@ CarryLaw =
     → ShutBelow k F
     → Agree F S T
     → MapLike k F H G
-    → MapLike k F (composed S H (j + k) n t v) (composed T G j n t v)
+    → MapLike k F (compose S H (j + k) n t v) (compose T G j n t v)
 
 -- for every path with a map, the way of each of its pages, for each access, is the one that is found from the inside out
 abbrev pub TrailLaw : Type 0
@@ -91,7 +91,7 @@ AlongLaw =
 abbrev pub PinnedLaw : Type 0
 PinnedLaw =
     (S path : List ℕ) (items : List Item)
-    → pinned S path ≡ Some items
+    → pin_of S path ≡ Some items
     → (syllables items ≡ path) × Chained S (identity (page_count S)) 0 items
 
 -- the path of the machine that a hart runs is one with a map, and is no longer than machines may be deep

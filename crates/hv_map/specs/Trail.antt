@@ -10,7 +10,7 @@ use Rattle.hv_store.specs.declared.access.Way.{Way}
 use Rattle.hv_store.specs.declared.access.Way.TheVariants.{Open, Shut}
 use Rattle.hv_map.specs.Item.{Item}
 use Rattle.hv_map.specs.Compose.{Looked, Named, Stopped, entry_of, no_write, no_fetch}
-use Rattle.hv_map.specs.Chain.{pinned}
+use Rattle.hv_map.specs.Chain.{pin_of}
 
 -- how many pages the innermost of the machines has, or the bare machine, which has P
 abbrev pub pages_of : ℕ → List Item → ℕ
@@ -50,7 +50,7 @@ trail S P (x ∷ xs) i a = step_out S (trail S P xs) (pages_of P xs) (length xs)
 
 -- the same of the machine at the end of a path, if there is one
 abbrev pub trail_of : List ℕ → List ℕ → ℕ → Access → Option Way
-trail_of S path i a = option_map (λ (items : List Item). trail S (page_count S) (reverse items) i a) (pinned S path)
+trail_of S path i a = option_map (λ (items : List Item). trail S (page_count S) (reverse items) i a) (pin_of S path)
 
 -- The pages of the trail for reading: i, then the parent's page that its entry names, and so on outwards. They end with
 -- the bare page, or with the last page whose map refused or whose directory or table word couldn't be read.

@@ -1,7 +1,7 @@
 //! Finding the machines on a path.
 
 ghost use Rattle.std.specs.Prelude.{◌≡◌};
-ghost use Rattle.hv_map.specs.Chain.{pinned};
+ghost use Rattle.hv_map.specs.Chain.{pin_of};
 
 use crate::chain::Chain;
 use crate::found::{Found, child};
@@ -12,7 +12,7 @@ use hv_store::Store;
 /// page can't be written, or has no well-formed block.
 #[tactic(auto, using(crate::proofs::Pins::pins))]
 pub fn pin(store: &Store, path: &Path) -> Option<Chain>
-    ensures { result ≡ pinned store.now path.now }
+    ensures { result ≡ pin_of store.now path.now }
 {
     let mut chain = Chain::new();
     for syllable in path.as_slice() {

@@ -9,7 +9,7 @@ use Rattle.hv_store.specs.declared.access.Way.{Way}
 use Rattle.hv_store.specs.declared.access.Way.TheVariants.{Open, Shut}
 use Rattle.hv_store.specs.Access.{way_for, identity}
 use Rattle.hv_map.specs.Item.{Item}
-use Rattle.hv_map.specs.Compose.{Looked, Named, Stopped, look, page_named, table_of, word_in, entry_of, no_write, no_fetch, every, granted, placed, slot_of, reading, composed_slot, composed}
+use Rattle.hv_map.specs.Compose.{Looked, Named, Stopped, look, page_named, table_of, word_in, entry_of, no_write, no_fetch, every, granted, placed, slot_of, reading, compose_slot, compose}
 use Rattle.hv_map.specs.Chain.{along}
 use Rattle.hv_map.proofs.Slots.{composed_at}
 use Rattle.hv_map.proofs.Views.{identity_below}
@@ -94,8 +94,8 @@ module _ (S : List ℕ) (F : List Slot) (j : ℕ) (tells : TellsAll F) where
   slot_tells v i (Named e) h a = placed_tells v i e (field_of e 12 20) (slice_get F (field_of e 12 20)) refl a
   slot_tells v i (Stopped way) h a = every_tells way h a
 
-  composed_tells : (n t v : ℕ) → TellsAll (composed S F j n t v)
-  unfolding TellsAll composed_slot
+  composed_tells : (n t v : ℕ) → TellsAll (compose S F j n t v)
+  unfolding TellsAll compose_slot
   composed_tells n t v y s a is =
       subst (λ (q : Slot). Tells (way_for q a)) (sym (composed_at S F j n t v y s is))
       (slot_tells v y (entry_of S (reading F) j t v y) (entry_tells y (table_of S (reading F) j t v y) (table_tells t v y)) a)
@@ -113,4 +113,4 @@ pub along_tells : (S : List ℕ) (F : List Slot) (j : ℕ) (xs : List Item) → 
 unfolding along
 along_tells S F j [] tells = tells
 along_tells S F j (x ∷ xs) tells =
-    along_tells S (composed S F j x.pages x.table x.version) (j + 1) xs (composed_tells S F j tells x.pages x.table x.version)
+    along_tells S (compose S F j x.pages x.table x.version) (j + 1) xs (composed_tells S F j tells x.pages x.table x.version)

@@ -11,7 +11,7 @@ use Rattle.hv_store.proofs.Identity.{length-identity}
 use Rattle.hv_block.specs.declared.Block.{Block}
 use Rattle.hv_block.specs.Block.{regs_at, is_block, held_at}
 use Rattle.hv_map.specs.Item.{Item}
-use Rattle.hv_map.specs.Compose.{composed}
+use Rattle.hv_map.specs.Compose.{compose}
 use Rattle.hv_map.specs.Chain.{depth_limit, along, map_along, child_of, child_next, run_on, running, running_path}
 use Rattle.hv_map.specs.Links.{syllable_of}
 use Rattle.hv_map.specs.declared.found.Found.{Found}
@@ -80,7 +80,7 @@ stops (suc n) S F j r s is ne e =
     ap (λ (k : ℕ). run_on (running n) S F j (child_next S F k)) (sym is)
     ∙ ap (run_on (running n) S F j) (real_next S F s ne ∙ e)
 
-goes_on : (n m : ℕ) (S : List ℕ) (F : List Slot) (j : ℕ) (r : Regs) (s : ℕ) (x : Item) → n ≡ suc m → s ≡ r.next → s ≢ 0 → child_of S F s ≡ Some x → running n S F j r ≡ x.syllable ∷ running m S (composed S F j x.pages x.table x.version) (j + 1) (regs_at S x.block)
+goes_on : (n m : ℕ) (S : List ℕ) (F : List Slot) (j : ℕ) (r : Regs) (s : ℕ) (x : Item) → n ≡ suc m → s ≡ r.next → s ≢ 0 → child_of S F s ≡ Some x → running n S F j r ≡ x.syllable ∷ running m S (compose S F j x.pages x.table x.version) (j + 1) (regs_at S x.block)
 unfolding running
 goes_on n m S F j r s x fuel is ne e =
     ap (λ (k : ℕ). running k S F j r) fuel
@@ -110,12 +110,12 @@ beyond_child S xs ys r s g b lt is ne f e =
     let longer : length ys ≡ length xs + 1 = ap length e ∙ length-append xs (x ∷ []) in
     let fuel : depth_limit - length xs ≡ suc m = omega arith in
     let rest : depth_limit - length ys ≡ m = omega arith in
-    let deeper : List ℕ = running m S (composed S (map_along S xs) (length xs) x.pages x.table x.version) (length xs + 1) (regs_at S x.block) in
+    let deeper : List ℕ = running m S (compose S (map_along S xs) (length xs) x.pages x.table x.version) (length xs + 1) (regs_at S x.block) in
     ap₂ (λ (p q : List ℕ). p ++ q)
     (ap (map syllable_of) e ∙ map-append syllable_of xs (x ∷ []))
     (ap (λ (k : ℕ). running k S (map_along S ys) (length ys) b.cpu) rest
     ∙ ap₂ (λ (F : List Slot) (j : ℕ). running m S F j b.cpu) (ap (map_along S) e ∙ map_along-snoc S xs x) longer
-    ∙ ap (running m S (composed S (map_along S xs) (length xs) x.pages x.table x.version) (length xs + 1)) (sym (child_regs S (map_along S xs) s g b f)))
+    ∙ ap (running m S (compose S (map_along S xs) (length xs) x.pages x.table x.version) (length xs + 1)) (sym (child_regs S (map_along S xs) s g b f)))
     ∙ append_assoc (map syllable_of xs) (s ∷ []) deeper
     ∙ ap (λ (p : List ℕ). map syllable_of xs ++ p) (sym (goes_on (depth_limit - length xs) m S (map_along S xs) (length xs) r s x fuel is ne (child_there S (map_along S xs) s g b f)))
 

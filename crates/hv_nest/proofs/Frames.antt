@@ -20,8 +20,8 @@ use Rattle.hv_exec.proofs.Few.{few_act, may_write}
 use Rattle.hv_block.specs.Block.{Held, regs_at, block_of, put_regs, with_fault, access_word}
 use Rattle.hv_block.proofs.Blocks.{block_holds}
 use Rattle.hv_map.specs.Item.{Item}
-use Rattle.hv_map.specs.Compose.{composed}
-use Rattle.hv_map.specs.Chain.{depth_limit, along, map_along, child_held, child_through, child_at, child_of, option_cons, machines, pinned, child_next, run_on, running, running_path}
+use Rattle.hv_map.specs.Compose.{compose}
+use Rattle.hv_map.specs.Chain.{depth_limit, along, map_along, child_held, child_through, child_at, child_of, option_cons, machines, pin_of, child_next, run_on, running, running_path}
 use Rattle.hv_nest.specs.declared.outcome.StepKind.{StepKind}
 use Rattle.hv_nest.specs.declared.outcome.StepKind.TheVariants.{Worked as WorkedKind, Recall, Fault}
 use Rattle.hv_nest.specs.Kinds.{step_as}
@@ -208,23 +208,23 @@ no_child S F j r deeper e = at (slice_get F r.next) refl e
     at (Some slot) is e = through slot is slot.write refl e
 
 -- the child that runs is the one that its parent's next names
-child_goes : (S : List ℕ) (F : List Slot) (j : ℕ) (r : Regs) (deeper : Machine) (x : Item) → child_of S F r.next ≡ Some x → step_at deeper S F j r (slice_get F r.next) ≡ put_back S j r x.block (deeper S (composed S F j x.pages x.table x.version) (j + 1) 0 (regs_at S x.block))
+child_goes : (S : List ℕ) (F : List Slot) (j : ℕ) (r : Regs) (deeper : Machine) (x : Item) → child_of S F r.next ≡ Some x → step_at deeper S F j r (slice_get F r.next) ≡ put_back S j r x.block (deeper S (compose S F j x.pages x.table x.version) (j + 1) 0 (regs_at S x.block))
 child_goes S F j r deeper x e = at (slice_get F r.next) e
   where
     none-some : None ≡ Some x → ⊥
     none-some p = cc
 
-    held : (g : ℕ) (o : Option Held) → block_of S g ≡ o → child_held r.next g o ≡ Some x → child_step deeper S F j r g o ≡ put_back S j r x.block (deeper S (composed S F j x.pages x.table x.version) (j + 1) 0 (regs_at S x.block))
+    held : (g : ℕ) (o : Option Held) → block_of S g ≡ o → child_held r.next g o ≡ Some x → child_step deeper S F j r g o ≡ put_back S j r x.block (deeper S (compose S F j x.pages x.table x.version) (j + 1) 0 (regs_at S x.block))
     held g None is e = absurd (none-some e)
     held g (Some h) is e =
-        ap (λ (q : Regs). put_back S j r g (deeper S (composed S F j h.pages h.table h.version) (j + 1) 0 q)) (sym (ap (λ (k : Held). k.regs) (block_holds S g h is).1))
-        ∙ ap (λ (y : Item). put_back S j r y.block (deeper S (composed S F j y.pages y.table y.version) (j + 1) 0 (regs_at S y.block))) (same_Some record { syllable = r.next; block = g; pages = h.pages; table = h.table; version = h.version } x e)
+        ap (λ (q : Regs). put_back S j r g (deeper S (compose S F j h.pages h.table h.version) (j + 1) 0 q)) (sym (ap (λ (k : Held). k.regs) (block_holds S g h is).1))
+        ∙ ap (λ (y : Item). put_back S j r y.block (deeper S (compose S F j y.pages y.table y.version) (j + 1) 0 (regs_at S y.block))) (same_Some record { syllable = r.next; block = g; pages = h.pages; table = h.table; version = h.version } x e)
 
-    through : (way : Way) → child_through S r.next way ≡ Some x → step_through deeper S F j r way ≡ put_back S j r x.block (deeper S (composed S F j x.pages x.table x.version) (j + 1) 0 (regs_at S x.block))
+    through : (way : Way) → child_through S r.next way ≡ Some x → step_through deeper S F j r way ≡ put_back S j r x.block (deeper S (compose S F j x.pages x.table x.version) (j + 1) 0 (regs_at S x.block))
     through (Open g) e = held g (block_of S g) refl e
     through (Shut l c p k) e = absurd (none-some e)
 
-    at : (o : Option Slot) → child_at S r.next o ≡ Some x → step_at deeper S F j r o ≡ put_back S j r x.block (deeper S (composed S F j x.pages x.table x.version) (j + 1) 0 (regs_at S x.block))
+    at : (o : Option Slot) → child_at S r.next o ≡ Some x → step_at deeper S F j r o ≡ put_back S j r x.block (deeper S (compose S F j x.pages x.table x.version) (j + 1) 0 (regs_at S x.block))
     at None e = absurd (none-some e)
     at (Some slot) e = through slot.write e
 
@@ -261,12 +261,12 @@ module _ (n : ℕ) (S : List ℕ) (F : List Slot) (j h : ℕ) (r : Regs) where
       by (Some k) = framed_interrupted S F [] j r k
       by None = going (r.next == 0) refl
 
-  goes_on : (x : Item) → child_next S F r.next ≡ Some x → Framing S (composed S F j x.pages x.table x.version) (j + 1) (running n S (composed S F j x.pages x.table x.version) (j + 1) (regs_at S x.block)) (step_of n S (composed S F j x.pages x.table x.version) (j + 1) 0 (regs_at S x.block)) → Framing S F j (x.syllable ∷ running n S (composed S F j x.pages x.table x.version) (j + 1) (regs_at S x.block)) (step_on (Some (step_of n)) S F j h r (pending_of r))
+  goes_on : (x : Item) → child_next S F r.next ≡ Some x → Framing S (compose S F j x.pages x.table x.version) (j + 1) (running n S (compose S F j x.pages x.table x.version) (j + 1) (regs_at S x.block)) (step_of n S (compose S F j x.pages x.table x.version) (j + 1) 0 (regs_at S x.block)) → Framing S F j (x.syllable ∷ running n S (compose S F j x.pages x.table x.version) (j + 1) (regs_at S x.block)) (step_on (Some (step_of n)) S F j h r (pending_of r))
   unfolding machines along FramedStep
   goes_on x e d = record {
     items = x ∷ d.items;
     there =
-        ap (option_and_then (λ (y : Item). option_cons y (machines S (composed S F j y.pages y.table y.version) (j + 1) (running n S (composed S F j x.pages x.table x.version) (j + 1) (regs_at S x.block))))) (ap (child_of S F) (sym (child_named S F r.next x here)) ∙ here)
+        ap (option_and_then (λ (y : Item). option_cons y (machines S (compose S F j y.pages y.table y.version) (j + 1) (running n S (compose S F j x.pages x.table x.version) (j + 1) (regs_at S x.block))))) (ap (child_of S F) (sym (child_named S F r.next x here)) ∙ here)
         ∙ ap (option_cons x) d.there;
     frame = by (pending_of r);
   }
@@ -281,19 +281,19 @@ module _ (n : ℕ) (S : List ℕ) (F : List Slot) (j h : ℕ) (r : Regs) where
       here = sym (real_next S F r.next ne) ∙ e
 
       G : List Slot
-      G = along S (composed S F j x.pages x.table x.version) (j + 1) d.items
+      G = along S (compose S F j x.pages x.table x.version) (j + 1) d.items
 
-      going : (t : Bool) → (r.next == 0) ≡ t → FramedStep S (along S (composed S F j x.pages x.table x.version) (j + 1) d.items) (x ∷ d.items) (cond t (worked (act_of S F h r)) (descended (Some (step_of n)) S F j r))
+      going : (t : Bool) → (r.next == 0) ≡ t → FramedStep S (along S (compose S F j x.pages x.table x.version) (j + 1) d.items) (x ∷ d.items) (cond t (worked (act_of S F h r)) (descended (Some (step_of n)) S F j r))
       going true z = absurd (ne (eqb-true r.next 0 z))
       going false z =
-          subst (FramedStep S (along S (composed S F j x.pages x.table x.version) (j + 1) d.items) (x ∷ d.items)) (sym (child_goes S F j r (step_of n) x here))
-          (framed_back S (along S (composed S F j x.pages x.table x.version) (j + 1) d.items) d.items j r x (step_of n S (composed S F j x.pages x.table x.version) (j + 1) 0 (regs_at S x.block)) d.frame)
+          subst (FramedStep S (along S (compose S F j x.pages x.table x.version) (j + 1) d.items) (x ∷ d.items)) (sym (child_goes S F j r (step_of n) x here))
+          (framed_back S (along S (compose S F j x.pages x.table x.version) (j + 1) d.items) d.items j r x (step_of n S (compose S F j x.pages x.table x.version) (j + 1) 0 (regs_at S x.block)) d.frame)
 
-      by : (p : Option ℕ) → FramedStep S (along S (composed S F j x.pages x.table x.version) (j + 1) d.items) (x ∷ d.items) (step_on (Some (step_of n)) S F j h r p)
-      by (Some k) = framed_interrupted S (along S (composed S F j x.pages x.table x.version) (j + 1) d.items) (x ∷ d.items) j r k
+      by : (p : Option ℕ) → FramedStep S (along S (compose S F j x.pages x.table x.version) (j + 1) d.items) (x ∷ d.items) (step_on (Some (step_of n)) S F j h r p)
+      by (Some k) = framed_interrupted S (along S (compose S F j x.pages x.table x.version) (j + 1) d.items) (x ∷ d.items) j r k
       by None = going (r.next == 0) refl
 
-  by_child : ((x : Item) → Framing S (composed S F j x.pages x.table x.version) (j + 1) (running n S (composed S F j x.pages x.table x.version) (j + 1) (regs_at S x.block)) (step_of n S (composed S F j x.pages x.table x.version) (j + 1) 0 (regs_at S x.block))) → (o : Option Item) → child_next S F r.next ≡ o → Framing S F j (run_on (running n) S F j o) (step_on (Some (step_of n)) S F j h r (pending_of r))
+  by_child : ((x : Item) → Framing S (compose S F j x.pages x.table x.version) (j + 1) (running n S (compose S F j x.pages x.table x.version) (j + 1) (regs_at S x.block)) (step_of n S (compose S F j x.pages x.table x.version) (j + 1) 0 (regs_at S x.block))) → (o : Option Item) → child_next S F r.next ≡ o → Framing S F j (run_on (running n) S F j o) (step_on (Some (step_of n)) S F j h r (pending_of r))
   by_child d None e = stops e
   by_child d (Some x) e = goes_on x e (d x)
 
@@ -309,7 +309,7 @@ framing zero S F j h r = ends S F j (step_on None S F j h r (pending_of r)) (by 
     by (Some k) = framed_interrupted S F [] j r k
     by None = going (r.next == 0)
 framing (suc n) S F j h r =
-    by_child n S F j h r (λ x. framing n S (composed S F j x.pages x.table x.version) (j + 1) 0 (regs_at S x.block)) (child_next S F r.next) refl
+    by_child n S F j h r (λ x. framing n S (compose S F j x.pages x.table x.version) (j + 1) 0 (regs_at S x.block)) (child_next S F r.next) refl
 
 -- a step of the bare machine
 kept_kind : (S T : List ℕ) (G : List Slot) (items : List Item) (q : Regs) (kind : StepKind) → FramedStep S G items (step_as kind T q) → IsFramed S G items T
@@ -319,7 +319,7 @@ kept_kind S T G items q (Recall l) g = g
 kept_kind S T G items q (Fault l c p a) g = g
 
 pub host_framed : (S T : List ℕ) (h : ℕ) (r q : Regs) (kind : StepKind) → step_as kind T q ≡ host_step_of S h r → IsFramedBy S (running_path S r) T
-unfolding host_step_of pinned map_along IsFramedBy
+unfolding host_step_of pin_of map_along IsFramedBy
 host_framed S T h r q kind e =
     let f = framing depth_limit S (identity (page_count S)) 0 h r in
     (f.items, f.there, kept_kind S T (along S (identity (page_count S)) 0 f.items) f.items q kind (subst (FramedStep S (along S (identity (page_count S)) 0 f.items) f.items) (sym e) f.frame))

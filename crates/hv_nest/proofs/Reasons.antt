@@ -16,7 +16,7 @@ use Rattle.hv_exec.specs.Act.{Acted, Done, Refused, act_of}
 use Rattle.hv_block.specs.Block.{Held, block_of, regs_at, with_fault, access_word}
 use Rattle.hv_block.proofs.Blocks.{block_holds, block_sized}
 use Rattle.hv_map.specs.Item.{Item}
-use Rattle.hv_map.specs.Compose.{composed}
+use Rattle.hv_map.specs.Compose.{compose}
 use Rattle.hv_map.specs.Chain.{along, child_held, child_through, child_at, child_of, machines, child_next, run_on, running}
 use Rattle.hv_map.specs.Carried.{ShutBelow}
 use Rattle.hv_map.proofs.Assoc.{begins_from}
@@ -197,21 +197,21 @@ module _ (deeper : Machine) (S : List ℕ) (F : List Slot) (j hart : ℕ) (r : R
 
   -- it runs a child that can be run
   held_goes : (g s : ℕ) (x : Item) (o : Option Held) → block_of S g ≡ o → child_held s g o ≡ Some x
-      → child_step deeper S F j r g o ≡ put_back S j r x.block (deeper S (composed S F j x.pages x.table x.version) (j + 1) 0 (regs_at S x.block))
+      → child_step deeper S F j r g o ≡ put_back S j r x.block (deeper S (compose S F j x.pages x.table x.version) (j + 1) 0 (regs_at S x.block))
   held_goes g s x None is e = absurd (let f : None ≡ Some x = e in cc)
   held_goes g s x (Some held) is e =
       let regs : held.regs ≡ regs_at S g = sym (ap (λ (h : Held). h.regs) (block_holds S g held is).1) in
       let item : record { syllable = s; block = g; pages = held.pages; table = held.table; version = held.version } ≡ x = same_Some record { syllable = s; block = g; pages = held.pages; table = held.table; version = held.version } x e in
-      ap (λ (c : Regs). put_back S j r g (deeper S (composed S F j held.pages held.table held.version) (j + 1) 0 c)) regs
-      ∙ ap (λ (y : Item). put_back S j r y.block (deeper S (composed S F j y.pages y.table y.version) (j + 1) 0 (regs_at S y.block))) item
+      ap (λ (c : Regs). put_back S j r g (deeper S (compose S F j held.pages held.table held.version) (j + 1) 0 c)) regs
+      ∙ ap (λ (y : Item). put_back S j r y.block (deeper S (compose S F j y.pages y.table y.version) (j + 1) 0 (regs_at S y.block))) item
 
   through_goes : (s : ℕ) (x : Item) (way : Way) → child_through S s way ≡ Some x
-      → step_through deeper S F j r way ≡ put_back S j r x.block (deeper S (composed S F j x.pages x.table x.version) (j + 1) 0 (regs_at S x.block))
+      → step_through deeper S F j r way ≡ put_back S j r x.block (deeper S (compose S F j x.pages x.table x.version) (j + 1) 0 (regs_at S x.block))
   through_goes s x (Open g) e = held_goes g s x (block_of S g) refl e
   through_goes s x (Shut l c p w) e = absurd (let f : None ≡ Some x = e in cc)
 
   slot_goes : (s : ℕ) (x : Item) (o : Option Slot) → child_at S s o ≡ Some x
-      → step_at deeper S F j r o ≡ put_back S j r x.block (deeper S (composed S F j x.pages x.table x.version) (j + 1) 0 (regs_at S x.block))
+      → step_at deeper S F j r o ≡ put_back S j r x.block (deeper S (compose S F j x.pages x.table x.version) (j + 1) 0 (regs_at S x.block))
   slot_goes s x None e = absurd (let f : None ≡ Some x = e in cc)
   slot_goes s x (Some slot) e = through_goes s x slot.write e
 
@@ -262,11 +262,11 @@ module _ (deeper : Machine) (S : List ℕ) (F : List Slot) (j hart : ℕ) (r : R
           (slot_received (suc s) (slice_get F (suc s)) bounds (ap (slice_get F) is) f)
 
   pub resumed_goes : (x : Item) → child_next S F r.next ≡ Some x
-      → resumed (Some deeper) S F j hart r ≡ put_back S j r x.block (deeper S (composed S F j x.pages x.table x.version) (j + 1) 0 (regs_at S x.block))
+      → resumed (Some deeper) S F j hart r ≡ put_back S j r x.block (deeper S (compose S F j x.pages x.table x.version) (j + 1) 0 (regs_at S x.block))
   resumed_goes x e = go r.next e
     where
       go : (s : ℕ) → child_next S F s ≡ Some x
-          → cond (s == 0) (worked (act_of S F hart r)) (step_at deeper S F j r (slice_get F s)) ≡ put_back S j r x.block (deeper S (composed S F j x.pages x.table x.version) (j + 1) 0 (regs_at S x.block))
+          → cond (s == 0) (worked (act_of S F hart r)) (step_at deeper S F j r (slice_get F s)) ≡ put_back S j r x.block (deeper S (compose S F j x.pages x.table x.version) (j + 1) 0 (regs_at S x.block))
       go zero f = absurd (let h : None ≡ Some x = f in cc)
       go (suc s) f =
           ap (λ (b : Bool). cond b (worked (act_of S F hart r)) (step_at deeper S F j r (slice_get F (suc s)))) (next_some s)
@@ -391,16 +391,16 @@ module _ (n : ℕ) (S : List ℕ) (F : List Slot) (j hart : ℕ) (r : Regs) (bel
       received_by (Some k) = interrupted_received S F j [] r k
 
   trace_child : (x : Item) → child_next S F r.next ≡ Some x
-      → Trace n S (composed S F j x.pages x.table x.version) (j + 1) 0 (regs_at S x.block)
+      → Trace n S (compose S F j x.pages x.table x.version) (j + 1) 0 (regs_at S x.block)
       → Trace (suc n) S F j hart r
   unfolding machines along running step_of
   trace_child x e t =
-      let path : running (suc n) S F j r ≡ x.syllable ∷ running n S (composed S F j x.pages x.table x.version) (j + 1) (regs_at S x.block) = ap (run_on (running n) S F j) e in
+      let path : running (suc n) S F j r ≡ x.syllable ∷ running n S (compose S F j x.pages x.table x.version) (j + 1) (regs_at S x.block) = ap (run_on (running n) S F j) e in
       record {
         items = x ∷ t.items;
         there =
             ap (machines S F j) path
-            ∙ begins_from S F j x.syllable (running n S (composed S F j x.pages x.table x.version) (j + 1) (regs_at S x.block)) x t.items (next_child S F r.next x e).there t.there;
+            ∙ begins_from S F j x.syllable (running n S (compose S F j x.pages x.table x.version) (j + 1) (regs_at S x.block)) x t.items (next_child S F r.next x e).there t.there;
         size = ap suc t.size ∙ sym (ap length path);
         short = omega (arith, t.short);
         inside = t.inside;
@@ -409,32 +409,32 @@ module _ (n : ℕ) (S : List ℕ) (F : List Slot) (j hart : ℕ) (r : Regs) (bel
         received = received_by (pending_of r);
       }
     where
-      goes : resumed (Some (step_of n)) S F j hart r ≡ put_back S j r x.block (step_of n S (composed S F j x.pages x.table x.version) (j + 1) 0 (regs_at S x.block))
+      goes : resumed (Some (step_of n)) S F j hart r ≡ put_back S j r x.block (step_of n S (compose S F j x.pages x.table x.version) (j + 1) 0 (regs_at S x.block))
       goes = resumed_goes (step_of n) S F j hart r x e
 
       hart_same : (xs : List Item) → hart_along xs 0 ≡ 0
       hart_same [] = refl
       hart_same (y ∷ ys) = refl
 
-      reason_by : (p : Option ℕ) → reason_of (step_on (Some (step_of n)) S F j hart r p) ≡ cond (is_none p && is_calm S t.items (regs_at S x.block)) (ended (left n t.items) S (along S (composed S F j x.pages x.table x.version) (j + 1) t.items) (level_along (j + 1) t.items) 0 (regs_along S t.items (regs_at S x.block))) None
+      reason_by : (p : Option ℕ) → reason_of (step_on (Some (step_of n)) S F j hart r p) ≡ cond (is_none p && is_calm S t.items (regs_at S x.block)) (ended (left n t.items) S (along S (compose S F j x.pages x.table x.version) (j + 1) t.items) (level_along (j + 1) t.items) 0 (regs_along S t.items (regs_at S x.block))) None
       reason_by None =
           ap reason_of goes
-          ∙ put_reason S j r x.block (step_of n S (composed S F j x.pages x.table x.version) (j + 1) 0 (regs_at S x.block))
+          ∙ put_reason S j r x.block (step_of n S (compose S F j x.pages x.table x.version) (j + 1) 0 (regs_at S x.block))
           ∙ t.reason
-          ∙ ap (λ (h : ℕ). cond (is_calm S t.items (regs_at S x.block)) (ended (left n t.items) S (along S (composed S F j x.pages x.table x.version) (j + 1) t.items) (level_along (j + 1) t.items) h (regs_along S t.items (regs_at S x.block))) None) (hart_same t.items)
+          ∙ ap (λ (h : ℕ). cond (is_calm S t.items (regs_at S x.block)) (ended (left n t.items) S (along S (compose S F j x.pages x.table x.version) (j + 1) t.items) (level_along (j + 1) t.items) h (regs_along S t.items (regs_at S x.block))) None) (hart_same t.items)
       reason_by (Some k) = interrupted_reason S j r k
 
       below_by : (p : Option ℕ) → PassedBelow j (step_on (Some (step_of n)) S F j hart r p)
       below_by None =
           subst (PassedBelow j) (sym goes)
-          (put_below S j r x.block (step_of n S (composed S F j x.pages x.table x.version) (j + 1) 0 (regs_at S x.block)) t.below)
+          (put_below S j r x.block (step_of n S (compose S F j x.pages x.table x.version) (j + 1) 0 (regs_at S x.block)) t.below)
       below_by (Some k) = interrupted_below S j r k
 
       received_by : (p : Option ℕ) → Received S F j (x ∷ t.items) r (step_on (Some (step_of n)) S F j hart r p)
       received_by None =
           let has : HasBlock F r.next x.block = (next_child S F r.next x e).has in
           subst (Received S F j (x ∷ t.items) r) (sym goes)
-          (put_received S F j x t.items r (step_of n S (composed S F j x.pages x.table x.version) (j + 1) 0 (regs_at S x.block))
+          (put_received S F j x t.items r (step_of n S (compose S F j x.pages x.table x.version) (j + 1) 0 (regs_at S x.block))
           (writes_inside (page_count S) F r.next x.block bounds has) has t.received)
       received_by (Some k) = interrupted_received S F j (x ∷ t.items) r k
 
@@ -444,9 +444,9 @@ trace_more : (n : ℕ) (S : List ℕ) (F : List Slot) (j hart : ℕ) (r : Regs) 
 trace_more n S F j hart r None e below bounds inside deep deeper = trace_end n S F j hart r below bounds inside e
 trace_more n S F j hart r (Some x) e below bounds inside deep deeper =
     let child = next_child S F r.next x e in
-    let within : (regs_at S x.block).next < length (composed S F j x.pages x.table x.version) = omega (arith, length-composed S F j x.pages x.table x.version, child.inside) in
+    let within : (regs_at S x.block).next < length (compose S F j x.pages x.table x.version) = omega (arith, length-composed S F j x.pages x.table x.version, child.inside) in
     trace_child n S F j hart r below bounds inside x e
-    (deeper (composed S F j x.pages x.table x.version) (j + 1) 0 (regs_at S x.block) (composed_below S F j x.pages x.table x.version below)
+    (deeper (compose S F j x.pages x.table x.version) (j + 1) 0 (regs_at S x.block) (composed_below S F j x.pages x.table x.version below)
     (composed_inside (page_count S) S F j x.pages x.table x.version bounds) within (omega arith))
 
 pub trace : (n : ℕ) (S : List ℕ) (F : List Slot) (j hart : ℕ) (r : Regs) → ShutBelow j F → OpensInside (page_count S) F → r.next < length F → 0 < j + n → Trace n S F j hart r

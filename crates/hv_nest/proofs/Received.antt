@@ -20,7 +20,7 @@ use Rattle.hv_block.specs.Block.{put_regs, regs_at, with_fault, access_word}
 use Rattle.hv_block.proofs.Same.{put_same}
 use Rattle.hv_block.proofs.Words.{length-put_regs, put_other}
 use Rattle.hv_map.specs.Item.{Item}
-use Rattle.hv_map.specs.Compose.{composed}
+use Rattle.hv_map.specs.Compose.{compose}
 use Rattle.hv_map.specs.Chain.{along}
 use Rattle.hv_map.proofs.Handed.{composed_opens}
 use Rattle.hv_map.proofs.Views.{identity_same}
@@ -129,7 +129,7 @@ put_tells T g q b cause address a tells = record {
 pub OpensInside : ℕ → List Slot → Type 0
 OpensInside P F = (y : ℕ) (s : Slot) (a : Access) (x : ℕ) → slice_get F y ≡ Some s → way_for s a ≡ Open x → x < P
 
-pub composed_inside : (P : ℕ) (S : List ℕ) (F : List Slot) (j n t v : ℕ) → OpensInside P F → OpensInside P (composed S F j n t v)
+pub composed_inside : (P : ℕ) (S : List ℕ) (F : List Slot) (j n t v : ℕ) → OpensInside P F → OpensInside P (compose S F j n t v)
 unfolding OpensInside
 composed_inside P S F j n t v inside y s a x is e =
     let o = composed_opens F j S n t v y s a x is e in
@@ -220,7 +220,7 @@ back_out S x items r (suc deep) P T q back = record {
 }
 
 pub put_received : (S : List ℕ) (F : List Slot) (j : ℕ) (x : Item) (items : List Item) (r : Regs) (X : Stepped) → x.block < page_count S → HasBlock F r.next x.block
-    → Received S (composed S F j x.pages x.table x.version) (j + 1) items (regs_at S x.block) X
+    → Received S (compose S F j x.pages x.table x.version) (j + 1) items (regs_at S x.block) X
     → Received S F j (x ∷ items) r (put_back S j r x.block X)
 unfolding along
 put_received S F j x items r (Worked T q) inside has h = tt

@@ -14,7 +14,7 @@ use Rattle.hv_store.specs.declared.access.Refusal.{Refusal}
 use Rattle.hv_store.specs.declared.access.Slot.{Slot}
 use Rattle.hv_store.specs.declared.access.Way.{Way}
 use Rattle.hv_store.specs.declared.access.Way.TheVariants.{Open, Shut}
-use Rattle.hv_store.specs.Access.{read_through, got_at, got, write_through, put_at, clear_through, cleared_at, cleared}
+use Rattle.hv_store.specs.Access.{read_through, get_at, get, write_through, put_at, clear_through, cleared_at, cleared}
 use Rattle.hv_sv32.specs.Entry.{is_faulty, is_leaf, is_plain, page_of, grants}
 use Rattle.hv_sv32.specs.Stop.{Walked, Found, TrapWith, RefusedBy}
 use Rattle.hv_sv32.specs.Walk.{barred, outside, placed, at_second, from_second, through_second, large_page, at_first, from_first, is_bare, through_first, walk_of}
@@ -82,7 +82,7 @@ module _ (S : List ℕ) (F : List Slot) (r : Regs) (address : ℕ) (a : Access) 
   second_way k (Open g) = second_passes (word_at S g k)
   second_way k (Shut l c p w) = refl
 
-  second_slot : (k : ℕ) (o : Option Slot) → walk_refusal (from_second F r address a (got_at S o k Read)) ≡ refusal_at o k Read
+  second_slot : (k : ℕ) (o : Option Slot) → walk_refusal (from_second F r address a (get_at S o k Read)) ≡ refusal_at o k Read
   second_slot k None = refl
   second_slot k (Some s) = second_way k s.read
 
@@ -110,16 +110,16 @@ module _ (S : List ℕ) (F : List Slot) (r : Regs) (address : ℕ) (a : Access) 
   first_way k (Open g) = first_entry (word_at S g k)
   first_way k (Shut l c p w) = refl
 
-  first_slot : (k : ℕ) (o : Option Slot) → walk_refusal (from_first S F r address a (got_at S o k Read)) ≡ option_or (refusal_at o k Read) (first_refusal F (second_ask address (got_at S o k Read)))
+  first_slot : (k : ℕ) (o : Option Slot) → walk_refusal (from_first S F r address a (get_at S o k Read)) ≡ option_or (refusal_at o k Read) (first_refusal F (second_ask address (get_at S o k Read)))
   first_slot k None = sym (first-empty F)
   first_slot k (Some s) = first_way k s.read
 
   walk_by : (bare : Bool) → walk_refusal (cond bare (placed F (address / 4096) address a) (through_first S F r address a))
-      ≡ first_refusal F (cond bare [] (record { page = field_of r.satp 0 22; word = field_of address 22 10; access = Read } ∷ second_ask address (got S F (field_of r.satp 0 22) (field_of address 22 10) Read)))
+      ≡ first_refusal F (cond bare [] (record { page = field_of r.satp 0 22; word = field_of address 22 10; access = Read } ∷ second_ask address (get S F (field_of r.satp 0 22) (field_of address 22 10) Read)))
   walk_by true = placed_passes (address / 4096) ∙ sym (first-empty F)
   walk_by false =
       first_slot (field_of address 22 10) (slice_get F (field_of r.satp 0 22))
-      ∙ sym (first-cons F (record { page = field_of r.satp 0 22; word = field_of address 22 10; access = Read }) (second_ask address (got S F (field_of r.satp 0 22) (field_of address 22 10) Read)))
+      ∙ sym (first-cons F (record { page = field_of r.satp 0 22; word = field_of address 22 10; access = Read }) (second_ask address (get S F (field_of r.satp 0 22) (field_of address 22 10) Read)))
 
   -- a walk is refused as the first of its asks that is
   walk_refused : walk_refusal (walk_of S F r address a) ≡ first_refusal F (walk_asks S F r address a)
@@ -136,7 +136,7 @@ act_refusal (Done S r) = None
 act_refusal (Refused e) = Some e
 
 module _ (S : List ℕ) (F : List Slot) (r : Regs) where
-  load_slot : (address : ℕ) (width : _) (signed : Bool) (rd offset k : ℕ) (o : Option Slot) → act_refusal (loaded S r address width signed rd offset (got_at S o k Read)) ≡ refusal_at o k Read
+  load_slot : (address : ℕ) (width : _) (signed : Bool) (rd offset k : ℕ) (o : Option Slot) → act_refusal (loaded S r address width signed rd offset (get_at S o k Read)) ≡ refusal_at o k Read
   load_slot address width signed rd offset k None = refl
   load_slot address width signed rd offset k (Some s) = go s.read
     where
@@ -198,7 +198,7 @@ module _ (S : List ℕ) (F : List Slot) (r : Regs) where
   decoded_refused hart w None = sym (first-empty F)
   decoded_refused hart w (Some i) = answer_refused (do_of i w r hart)
 
-  fetch_slot : (hart k : ℕ) (o : Option Slot) → act_refusal (fetched S F hart r (got_at S o k Fetch)) ≡ option_or (refusal_at o k Fetch) (first_refusal F (fetched_asks S F hart r (got_at S o k Fetch)))
+  fetch_slot : (hart k : ℕ) (o : Option Slot) → act_refusal (fetched S F hart r (get_at S o k Fetch)) ≡ option_or (refusal_at o k Fetch) (first_refusal F (fetched_asks S F hart r (get_at S o k Fetch)))
   fetch_slot hart k None = sym (first-empty F)
   fetch_slot hart k (Some s) = go s.fetch
     where
@@ -210,7 +210,7 @@ module _ (S : List ℕ) (F : List Slot) (r : Regs) where
   unfolding fetch_at
   fetch_walked hart (Found page offset) =
       fetch_slot hart (offset / 4) (slice_get F page)
-      ∙ ap (λ (o : Option Refusal). option_or o (first_refusal F (fetched_asks S F hart r (got S F page (offset / 4) Fetch)))) (sym (first-one F (record { page = page; word = offset / 4; access = Fetch })))
+      ∙ ap (λ (o : Option Refusal). option_or o (first_refusal F (fetched_asks S F hart r (get S F page (offset / 4) Fetch)))) (sym (first-one F (record { page = page; word = offset / 4; access = Fetch })))
   fetch_walked hart (TrapWith cause tval) = sym (ap (λ (o : Option Refusal). option_or o (first_refusal F [])) (first-empty F) ∙ first-empty F)
   fetch_walked hart (RefusedBy e) = refl
 

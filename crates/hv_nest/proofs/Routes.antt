@@ -14,7 +14,7 @@ use Rattle.hv_store.specs.Access.{way_for, refused, identity, open_at}
 use Rattle.hv_store.proofs.Identity.{length-identity}
 use Rattle.hv_block.specs.Block.{Held, block_of}
 use Rattle.hv_map.specs.Item.{Item}
-use Rattle.hv_map.specs.Chain.{depth_limit, along, map_along, pinned, map_of, running_path}
+use Rattle.hv_map.specs.Chain.{depth_limit, along, map_along, pin_of, map_of, running_path}
 use Rattle.hv_map.specs.Trail.{trail_of}
 use Rattle.hv_map.proofs.Trails.{trail_law}
 use Rattle.hv_map.proofs.Views.{identity_below}
@@ -263,8 +263,8 @@ module _ (S : List ℕ) (hart : ℕ) (r : Regs) (t : Trace depth_limit S (identi
   unfolding host_step_of
   fault_is = fault_is_reason (step_of depth_limit S (identity (page_count S)) 0 hart r) t.below ∙ t.reason
 
-  pins : pinned S (running_path S r) ≡ Some t.items
-  unfolding pinned
+  pins : pin_of S (running_path S r) ≡ Some t.items
+  unfolding pin_of
   pins = t.there
 
   maps : map_of S (running_path S r) ≡ Some (along S (identity (page_count S)) 0 t.items)
@@ -312,7 +312,7 @@ module _ (S : List ℕ) (hart : ℕ) (r : Regs) (t : Trace depth_limit S (identi
   step_received = received_is (step_of depth_limit S (identity (page_count S)) 0 hart r) t.below t.received
 
   from_trace : (items : List Item)
-      × (pinned S (running_path S r) ≡ Some items)
+      × (pin_of S (running_path S r) ≡ Some items)
       × (is_calm S items r ≡ true → IsRouted S (running_path S r) (map_along S items) (hart_along items hart) (regs_along S items r) (fault_of (host_step_of S hart r)))
       × (is_calm S items r ≡ false → fault_of (host_step_of S hart r) ≡ None)
   from_trace = (t.items, pins, calm_routed, pending_none)
@@ -325,12 +325,12 @@ host_trace S hart r inside =
 
 pub routing : (S : List ℕ) (hart : ℕ) (r : Regs) → r.next < page_count S
     → (items : List Item)
-    × (pinned S (running_path S r) ≡ Some items)
+    × (pin_of S (running_path S r) ≡ Some items)
     × (is_calm S items r ≡ true → IsRouted S (running_path S r) (map_along S items) (hart_along items hart) (regs_along S items r) (fault_of (host_step_of S hart r)))
     × (is_calm S items r ≡ false → fault_of (host_step_of S hart r) ≡ None)
 routing S hart r inside = from_trace S hart r (host_trace S hart r inside)
 
-pub receiving : (S : List ℕ) (hart : ℕ) (r : Regs) → r.next < page_count S → (items : List Item) × (pinned S (running_path S r) ≡ Some items) × IsReceived S items r (host_step_of S hart r)
+pub receiving : (S : List ℕ) (hart : ℕ) (r : Regs) → r.next < page_count S → (items : List Item) × (pin_of S (running_path S r) ≡ Some items) × IsReceived S items r (host_step_of S hart r)
 receiving S hart r inside =
     let t = host_trace S hart r inside in
     (t.items, pins S hart r t, step_received S hart r t)

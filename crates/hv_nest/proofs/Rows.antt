@@ -16,7 +16,7 @@ use Rattle.hv_exec.specs.Act.{act_of}
 use Rattle.hv_block.specs.declared.Block.{Block}
 use Rattle.hv_block.specs.Block.{Held, block_of, put_regs}
 use Rattle.hv_map.specs.Item.{Item}
-use Rattle.hv_map.specs.Compose.{composed}
+use Rattle.hv_map.specs.Compose.{compose}
 use Rattle.hv_map.specs.Chain.{depth_limit, along, map_along}
 use Rattle.hv_map.specs.declared.found.Found.{Found}
 use Rattle.hv_map.specs.declared.found.Found.TheVariants.{Child, Malformed, Refused}
@@ -64,7 +64,7 @@ pending_small r k e =
 by_found : Machine → List ℕ → List Slot → ℕ → Regs → Option Found → Stepped
 by_found deeper S F j r None = Barred (too_deep r.next)
 by_found deeper S F j r (Some (Child g b)) =
-    put_back S j r g (deeper S (composed S F j b.pages b.table b.version) (j + 1) 0 b.cpu)
+    put_back S j r g (deeper S (compose S F j b.pages b.table b.version) (j + 1) 0 b.cpu)
 by_found deeper S F j r (Some (Malformed g)) = told S j r g (malformed j r.next)
 by_found deeper S F j r (Some (Refused e)) = Barred e
 
@@ -125,17 +125,17 @@ pub row_malformed : (n m : ℕ) (S : List ℕ) (F : List Slot) (j h : ℕ) (r : 
 unfolding by_found
 row_malformed n m S F j h r g is p ne f = row_found n m S F j h r (Malformed g) is p ne f
 
-pub row_child : (n m : ℕ) (S : List ℕ) (F : List Slot) (j h : ℕ) (r : Regs) (g : ℕ) (b : Block) → n ≡ suc m → None ≡ pending_of r → r.next ≢ 0 → Some (Child g b) ≡ found_on S F r.next → step_of n S F j h r ≡ put_back S j r g (step_of m S (composed S F j b.pages b.table b.version) (j + 1) 0 b.cpu)
+pub row_child : (n m : ℕ) (S : List ℕ) (F : List Slot) (j h : ℕ) (r : Regs) (g : ℕ) (b : Block) → n ≡ suc m → None ≡ pending_of r → r.next ≢ 0 → Some (Child g b) ≡ found_on S F r.next → step_of n S F j h r ≡ put_back S j r g (step_of m S (compose S F j b.pages b.table b.version) (j + 1) 0 b.cpu)
 unfolding by_found
 row_child n m S F j h r g b is p ne f = row_found n m S F j h r (Child g b) is p ne f
 
 -- the map of one more machine
-pub map_along-snoc : (S : List ℕ) (xs : List Item) (x : Item) → map_along S (xs ++ x ∷ []) ≡ composed S (map_along S xs) (length xs) x.pages x.table x.version
+pub map_along-snoc : (S : List ℕ) (xs : List Item) (x : Item) → map_along S (xs ++ x ∷ []) ≡ compose S (map_along S xs) (length xs) x.pages x.table x.version
 unfolding map_along
 map_along-snoc S xs x =
     let e : 0 + length xs ≡ length xs = omega arith in
     along-snoc S (identity (page_count S)) 0 xs x
-    ∙ ap (λ (j : ℕ). composed S (along S (identity (page_count S)) 0 xs) j x.pages x.table x.version) e
+    ∙ ap (λ (j : ℕ). compose S (along S (identity (page_count S)) 0 xs) j x.pages x.table x.version) e
 
 pub length-deeper : (S : List ℕ) (xs : List Item) (x : Item) → length (map_along S (xs ++ x ∷ [])) ≡ x.pages
 length-deeper S xs x = ap length (map_along-snoc S xs x) ∙ length-composed S (map_along S xs) (length xs) x.pages x.table x.version

@@ -9,7 +9,7 @@ use Rattle.hv_csr.specs.Traps.{take_trap_of}
 use Rattle.hv_store.specs.declared.access.Access.TheVariants.{Read, Write, Fetch}
 use Rattle.hv_store.specs.declared.access.Refusal.{Refusal}
 use Rattle.hv_store.specs.declared.access.Slot.{Slot}
-use Rattle.hv_store.specs.Access.{got, put_in, cleared}
+use Rattle.hv_store.specs.Access.{get, set, cleared}
 use Rattle.hv_sv32.specs.Stop.{Walked}
 use Rattle.hv_sv32.specs.Walk.{walk_of}
 use Rattle.hv_exec.specs.Answer.{Answer, Next, Trap, Load, Store, Enter, advanced, given}
@@ -65,7 +65,7 @@ module _ (k : ℕ) (F : List Slot) (R : List ℕ → List ℕ → Type 0) (sim :
     load_like r address width signed rd V W (walk_further_out e X low) = act_further_out e (load_at T G r address width signed rd X) low
     load_like r address width signed rd V W (both_find page offset lt) =
         let word : offset / 4 < 1024 = omega arith in
-        loaded_like r address width signed rd offset (got S H page (offset / 4) Read) (got T G page (offset / 4) Read)
+        loaded_like r address width signed rd offset (get S H page (offset / 4) Read) (get T G page (offset / 4) Read)
         (got_like k F R sim S T related H G like page (offset / 4) Read word)
     load_like r address width signed rd V W (both_trap cause tval) = trapped_like r cause tval
     load_like r address width signed rd V W (walk_refused e) = act_refused e
@@ -74,7 +74,7 @@ module _ (k : ℕ) (F : List Slot) (R : List ℕ → List ℕ → Type 0) (sim :
     store_like r address width v V W (walk_further_out e X low) = act_further_out e (store_at T G r address width v X) low
     store_like r address width v V W (both_find page offset lt) =
         let word : offset / 4 < 1024 = omega arith in
-        stored_like r address (put_in S H page (offset / 4) (lane_at width offset) v) (put_in T G page (offset / 4) (lane_at width offset) v)
+        stored_like r address (set S H page (offset / 4) (lane_at width offset) v) (set T G page (offset / 4) (lane_at width offset) v)
         (put_like k F R sim S T related H G like page (offset / 4) (lane_at width offset) v word)
     store_like r address width v V W (both_trap cause tval) = trapped_like r cause tval
     store_like r address width v V W (walk_refused e) = act_refused e
@@ -123,7 +123,7 @@ module _ (k : ℕ) (F : List Slot) (R : List ℕ → List ℕ → Type 0) (sim :
     fetch_like hart r V W (walk_further_out e X low) = act_further_out e (fetch_at T G hart r X) low
     fetch_like hart r V W (both_find page offset lt) =
         let word : offset / 4 < 1024 = omega arith in
-        fetched_like hart r (got S H page (offset / 4) Fetch) (got T G page (offset / 4) Fetch)
+        fetched_like hart r (get S H page (offset / 4) Fetch) (get T G page (offset / 4) Fetch)
         (got_like k F R sim S T related H G like page (offset / 4) Fetch word)
     fetch_like hart r V W (both_trap cause tval) = trapped_like r cause tval
     fetch_like hart r V W (walk_refused e) = act_refused e

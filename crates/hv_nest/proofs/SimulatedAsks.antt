@@ -10,7 +10,7 @@ use Rattle.hv_store.specs.declared.access.Refusal.{Refusal}
 use Rattle.hv_store.specs.declared.access.Slot.{Slot}
 use Rattle.hv_store.specs.declared.access.Way.{Way}
 use Rattle.hv_store.specs.declared.access.Way.TheVariants.{Open, Shut}
-use Rattle.hv_store.specs.Access.{way_for, refused, read_through, got_at, got, write_through, put_at, put_in, without_fault, clear_through, cleared_at, cleared}
+use Rattle.hv_store.specs.Access.{way_for, refused, read_through, get_at, get, write_through, put_at, set, without_fault, clear_through, cleared_at, cleared}
 use Rattle.hv_map.specs.Carried.{WayLike, SlotLike, MapLike, ShutBelow}
 use Rattle.hv_map.specs.Compose.{reading}
 use Rattle.hv_nest.specs.Simulation.{Sees, Simulation, raised}
@@ -99,10 +99,10 @@ module _ (k : ℕ) (F : List Slot) (R : List ℕ → List ℕ → Type 0) (sim :
       both_answer (without_fault S x) (without_fault T y) (without_fault_like y x (opened F y x s is (same_read y x s Write is e)))
 
   module _ (H G : List Slot) (like : MapLike k F H G) where
-    pub got_like : (page n : ℕ) (a : Access) → n < 1024 → AskLike k (λ (u v : ℕ). u ≡ v) (got S H page n a) (got T G page n a)
+    pub got_like : (page n : ℕ) (a : Access) → n < 1024 → AskLike k (λ (u v : ℕ). u ≡ v) (get S H page n a) (get T G page n a)
     got_like page n a lt = by (slice_get H page) (slice_get G page) (like page)
       where
-        by : (o p : Option Slot) → SlotLike k F o p → AskLike k (λ (u v : ℕ). u ≡ v) (got_at S o n a) (got_at T p n a)
+        by : (o p : Option Slot) → SlotLike k F o p → AskLike k (λ (u v : ℕ). u ≡ v) (get_at S o n a) (get_at T p n a)
         by None None e = both_outside
         by None (Some g) e = absurd e
         by (Some h) None e = absurd e
@@ -111,7 +111,7 @@ module _ (k : ℕ) (F : List Slot) (R : List ℕ → List ℕ → Type 0) (sim :
             (through_like k F sees.below (λ (u v : ℕ). u ≡ v) (λ (way : Way). read_through S way n a) (λ (way : Way). read_through T way n a) n a a
             (λ l c p w. refl) (λ l c p w. refl) (read_like n a lt) (way_for h a) (way_for g a) (e a))
 
-    pub put_like : (page n : ℕ) (lane : Lane) (v : ℕ) → n < 1024 → AskLike k R (put_in S H page n lane v) (put_in T G page n lane v)
+    pub put_like : (page n : ℕ) (lane : Lane) (v : ℕ) → n < 1024 → AskLike k R (set S H page n lane v) (set T G page n lane v)
     put_like page n lane v lt = by (slice_get H page) (slice_get G page) (like page)
       where
         by : (o p : Option Slot) → SlotLike k F o p → AskLike k R (put_at S o n lane v) (put_at T p n lane v)

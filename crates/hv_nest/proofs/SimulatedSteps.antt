@@ -15,7 +15,7 @@ use Rattle.hv_exec.specs.Act.{Acted, act_of}
 use Rattle.hv_block.specs.Block.{Held, block_of, put_regs, with_fault, access_word}
 use Rattle.hv_block.proofs.Blocks.{block_alike, block_sized}
 use Rattle.hv_map.specs.Carried.{WayLike, SlotLike, MapLike}
-use Rattle.hv_map.specs.Compose.{composed, reading}
+use Rattle.hv_map.specs.Compose.{compose, reading}
 use Rattle.hv_map.proofs.Like.{composed_like}
 use Rattle.hv_nest.specs.Step.{Stepped, Worked, Recalled, Faulted, Barred, Machine, idle, interrupted, worked, told, put_back, malformed, too_deep, child_step, child_through, child_at, descended, step_on, step_with, step_of}
 use Rattle.hv_nest.specs.Simulation.{Sees, Simulation, raised, StepLike, refused_further_out, both_work, both_recall, both_fault, both_refused}
@@ -113,20 +113,20 @@ module _ (k : ℕ) (F : List Slot) (R : List ℕ → List ℕ → Type 0) (sim :
         by None = going (r.next == 0)
 
     module _ (d d' : Machine) (deeper : DeeperLike k F R d d') (r : Regs) where
-      composed_deeper : (n t v : ℕ) (q : Regs) → n ≤ 1048576 → StepLike k R (d S (composed S H (j + k) n t v) (j + k + 1) 0 q) (d' T (composed T G j n t v) (j + 1) 0 q)
+      composed_deeper : (n t v : ℕ) (q : Regs) → n ≤ 1048576 → StepLike k R (d S (compose S H (j + k) n t v) (j + k + 1) 0 q) (d' T (compose T G j n t v) (j + 1) 0 q)
       unfolding DeeperLike
       composed_deeper n t v q bound =
           let level : j + 1 + k ≡ j + k + 1 = omega arith in
-          subst (λ (l : ℕ). StepLike k R (d S (composed S H (j + k) n t v) l 0 q) (d' T (composed T G j n t v) (j + 1) 0 q)) level
-          (deeper S T (composed S H (j + k) n t v) (composed T G j n t v) (j + 1) 0 q related
+          subst (λ (l : ℕ). StepLike k R (d S (compose S H (j + k) n t v) l 0 q) (d' T (compose T G j n t v) (j + 1) 0 q)) level
+          (deeper S T (compose S H (j + k) n t v) (compose T G j n t v) (j + 1) 0 q related
           (composed_like k F S T sees.below sees.agree H G like j n t v bound))
 
       held_like : (y x : ℕ) → reading F y ≡ Some (Open x) → (o : Option Held) → block_of T y ≡ o → StepLike k R (child_step d S H (j + k) r x o) (child_step d' T G j r y o)
       held_like y x is_open None e = told_like y x is_open j r (malformed j r.next)
       held_like y x is_open (Some held) e =
           put_back_like y x is_open j r
-          (d S (composed S H (j + k) held.pages held.table held.version) (j + k + 1) 0 held.regs)
-          (d' T (composed T G j held.pages held.table held.version) (j + 1) 0 held.regs)
+          (d S (compose S H (j + k) held.pages held.table held.version) (j + k + 1) 0 held.regs)
+          (d' T (compose T G j held.pages held.table held.version) (j + 1) 0 held.regs)
           (composed_deeper held.pages held.table held.version held.regs (block_sized T y held e).pages)
 
       block_like : (y x : ℕ) (s : Slot) → slice_get F y ≡ Some s → s.read ≡ Open x → StepLike k R (child_step d S H (j + k) r x (block_of S x)) (child_step d' T G j r y (block_of T y))

@@ -9,7 +9,7 @@ use Rattle.hv_store.specs.declared.access.Access.{Access}
 use Rattle.hv_store.specs.declared.access.Access.TheVariants.{Read}
 use Rattle.hv_store.specs.declared.access.Refusal.{Refusal}
 use Rattle.hv_store.specs.declared.access.Slot.{Slot}
-use Rattle.hv_store.specs.Access.{got, open_at}
+use Rattle.hv_store.specs.Access.{get, open_at}
 use Rattle.hv_sv32.specs.Entry.{is_faulty, is_leaf, is_plain, page_of, grants}
 use Rattle.hv_sv32.specs.Stop.{Walked, Found, TrapWith, RefusedBy}
 use Rattle.hv_sv32.specs.Walk.{page_fault_of, access_fault_of, barred, outside, placed, at_second, from_second, through_second, large_page, at_first, from_first, through_first, is_bare, walk_of}
@@ -71,7 +71,7 @@ module _ (k : ℕ) (F : List Slot) (R : List ℕ → List ℕ → Type 0) (sim :
 
   through_second_like : (r : Regs) (table address : ℕ) (a : Access) → WalkLike k (through_second S H r table address a) (through_second T G r table address a)
   through_second_like r table address a =
-      from_second_like r address a (got S H table (field_of address 12 10) Read) (got T G table (field_of address 12 10) Read)
+      from_second_like r address a (get S H table (field_of address 12 10) Read) (get T G table (field_of address 12 10) Read)
       (got_like k F R sim S T related H G like table (field_of address 12 10) Read (omega arith))
 
   first_like : (r : Regs) (address : ℕ) (a : Access) (e : ℕ) → WalkLike k (at_first S H r address a e) (at_first T G r address a e)
@@ -103,5 +103,5 @@ module _ (k : ℕ) (F : List Slot) (R : List ℕ → List ℕ → Type 0) (sim :
       by : (b : Bool) → WalkLike k (cond b (placed H (address / 4096) address a) (through_first S H r address a)) (cond b (placed G (address / 4096) address a) (through_first T G r address a))
       by true = placed_like (address / 4096) address a
       by false =
-          from_first_like r address a (got S H (field_of r.satp 0 22) (field_of address 22 10) Read) (got T G (field_of r.satp 0 22) (field_of address 22 10) Read)
+          from_first_like r address a (get S H (field_of r.satp 0 22) (field_of address 22 10) Read) (get T G (field_of r.satp 0 22) (field_of address 22 10) Read)
           (got_like k F R sim S T related H G like (field_of r.satp 0 22) (field_of address 22 10) Read (omega arith))

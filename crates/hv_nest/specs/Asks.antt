@@ -11,7 +11,7 @@ use Rattle.hv_store.specs.declared.access.Refusal.{Refusal}
 use Rattle.hv_store.specs.declared.access.Slot.{Slot}
 use Rattle.hv_store.specs.declared.access.Way.{Way}
 use Rattle.hv_store.specs.declared.access.Way.TheVariants.{Open, Shut}
-use Rattle.hv_store.specs.Access.{way_for, refused, got}
+use Rattle.hv_store.specs.Access.{way_for, refused, get}
 use Rattle.hv_sv32.specs.Entry.{is_faulty, is_leaf, is_plain, page_of}
 use Rattle.hv_sv32.specs.Stop.{Walked, Found, TrapWith, RefusedBy}
 use Rattle.hv_sv32.specs.Walk.{is_bare, walk_of}
@@ -40,7 +40,7 @@ abbrev pub walk_asks : List ℕ → List Slot → Regs → ℕ → Access → Li
 walk_asks S F r address a =
     if is_bare r a then []
     else record { page = field_of r.satp 0 22; word = field_of address 22 10; access = Read }
-    ∷ second_ask address (got S F (field_of r.satp 0 22) (field_of address 22 10) Read)
+    ∷ second_ask address (get S F (field_of r.satp 0 22) (field_of address 22 10) Read)
 
 -- the word where the walk found the address to be
 abbrev pub place_ask : Access → Walked → List Ask
@@ -76,7 +76,7 @@ fetched_asks S F hart r (Some (Err e)) = []
 fetched_asks S F hart r (Some (Ok w)) = decoded_asks S F hart r w (decode_of w)
 
 abbrev pub found_asks : List ℕ → List Slot → ℕ → Regs → Walked → List Ask
-found_asks S F hart r (Found page offset) = fetched_asks S F hart r (got S F page (offset / 4) Fetch)
+found_asks S F hart r (Found page offset) = fetched_asks S F hart r (get S F page (offset / 4) Fetch)
 found_asks S F hart r (TrapWith cause tval) = []
 found_asks S F hart r (RefusedBy e) = []
 

@@ -4,7 +4,7 @@ use Rattle.std.specs.List.{list_any}
 use Rattle.hv_store.specs.declared.access.Slot.{Slot}
 use Rattle.hv_exec.specs.Changes.{opens_for_writing}
 use Rattle.hv_map.specs.Item.{Item}
-use Rattle.hv_map.specs.Chain.{map_along, pinned}
+use Rattle.hv_map.specs.Chain.{map_along, pin_of}
 
 -- the words of a control block that hold registers, 0 to 48 and 64, or the last fault, 72 to 74
 abbrev pub is_kept_word : ℕ → Bool
@@ -26,4 +26,4 @@ IsFramed S F items T =
 
 -- The same where the machines are those on a path from the bare machine, and the map is that of the last. There are such.
 unfoldable pub IsFramedBy : List ℕ → List ℕ → List ℕ → Type 0
-IsFramedBy S path T = (items : List Item) × (pinned S path ≡ Some items) × IsFramed S (map_along S items) items T
+IsFramedBy S path T = (items : List Item) × (pin_of S path ≡ Some items) × IsFramed S (map_along S items) items T

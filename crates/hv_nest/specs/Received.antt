@@ -1,4 +1,4 @@
--- What a step changes that was refused, or after which a machine got control back for an interrupt: nothing but the next of
+-- What a step changes that was refused, or after which a machine get control back for an interrupt: nothing but the next of
 -- the machine that received it, and of the words that tell of a fault those of one block.
 use Rattle.std.specs.Prelude.{◌≡◌, ℕ, zero, suc, ◌<◌, ◌≤◌, ◌⊎◌, IsSomeAnd, List, length, take, Some, slice_get}
 use Rattle.hv_word.specs.Storage.{page_count, word_at}
@@ -8,7 +8,7 @@ use Rattle.hv_store.specs.declared.access.Slot.{Slot}
 use Rattle.hv_store.specs.declared.access.Way.TheVariants.{Open}
 use Rattle.hv_block.specs.Block.{access_word}
 use Rattle.hv_map.specs.Item.{Item}
-use Rattle.hv_map.specs.Chain.{map_along, pinned, running_path}
+use Rattle.hv_map.specs.Chain.{map_along, pin_of, running_path}
 use Rattle.hv_nest.specs.Step.{Stepped, Worked, Recalled, Faulted, Barred, idle, host_step_of}
 use Rattle.hv_nest.specs.Routing.{regs_along}
 
@@ -31,7 +31,7 @@ abbrev pub hart_after : ℕ → Regs → Regs
 hart_after zero r = idle r
 hart_after (suc l) r = r
 
--- the machine at level l, one of those on the path, got control back; beside its next the words that P names may change
+-- the machine at level l, one of those on the path, get control back; beside its next the words that P names may change
 pub record GetsBack (S : List ℕ) (items : List Item) (r : Regs) (l : ℕ) (P : ℕ → ℕ → Type 0) (T : List ℕ) (q : Regs) : Type 0 where
   pub there : l ≤ length items
   pub changes : ChangesOnly (λ g w. IsNextOf items l g w ⊎ P g w) S T
@@ -67,5 +67,5 @@ ReceivedLaw =
     (S : List ℕ) (hart : ℕ) (r : Regs)
     → r.next < page_count S
     → (items : List Item)
-    × (pinned S (running_path S r) ≡ Some items)
+    × (pin_of S (running_path S r) ≡ Some items)
     × IsReceived S items r (host_step_of S hart r)

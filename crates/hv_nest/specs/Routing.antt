@@ -10,7 +10,7 @@ use Rattle.hv_store.specs.declared.access.Slot.{Slot}
 use Rattle.hv_store.specs.declared.access.Way.TheVariants.{Open}
 use Rattle.hv_block.specs.Block.{block_of, regs_at}
 use Rattle.hv_map.specs.Item.{Item}
-use Rattle.hv_map.specs.Chain.{depth_limit, map_along, pinned, running_path}
+use Rattle.hv_map.specs.Chain.{depth_limit, map_along, pin_of, running_path}
 use Rattle.hv_map.specs.Trail.{trail_of}
 use Rattle.hv_nest.specs.Step.{Stepped, Worked, Recalled, Faulted, Barred, malformed, too_deep, host_step_of}
 use Rattle.hv_nest.specs.Asks.{Ask, asks, first_refused, refusal_through}
@@ -93,6 +93,6 @@ RoutingLaw =
     (S : List ℕ) (hart : ℕ) (r : Regs)
     → r.next < page_count S
     → (items : List Item)
-    × (pinned S (running_path S r) ≡ Some items)
+    × (pin_of S (running_path S r) ≡ Some items)
     × (IsTrue (is_calm S items r) → IsRouted S (running_path S r) (map_along S items) (hart_along items hart) (regs_along S items r) (fault_of (host_step_of S hart r)))
     × (IsFalse (is_calm S items r) → fault_of (host_step_of S hart r) ≡ None)

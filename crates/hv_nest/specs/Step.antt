@@ -1,5 +1,5 @@
 -- One step of a machine at level j, with the machines inside it. The registers name by `next` the page of the child that the
--- machine runs, 0 for none; then the child makes the step. A machine's map is the list of its slots, and is composed anew for
+-- machine runs, 0 for none; then the child makes the step. A machine's map is the list of its slots, and is compose anew for
 -- each child; the child's registers are read from its block before the step and put back after it.
 use Rattle.std.specs.Prelude.{ℕ, zero, suc, ◌+◌, ◌*◌, ◌==◌, true, if◌then◌else◌, List, Option, Some, None, slice_get}
 use Rattle.hv_word.specs.Storage.{page_count}
@@ -16,13 +16,13 @@ use Rattle.hv_store.specs.Access.{identity, refused}
 use Rattle.hv_exec.specs.Act.{Acted, Done, Refused, act_of}
 use Rattle.hv_block.specs.Block.{Held, block_of, put_regs, with_fault, access_word}
 use Rattle.hv_map.specs.Chain.{depth_limit}
-use Rattle.hv_map.specs.Compose.{composed}
+use Rattle.hv_map.specs.Compose.{compose}
 
 -- what a step comes to
 pub data Stepped : Type 0 where
   -- an instruction was executed, or its trap or an interrupt taken
   Worked : (S : List ℕ) (r : Regs) → Stepped
-  -- the machine at that level got control back, for an interrupt of its own
+  -- the machine at that level get control back, for an interrupt of its own
   Recalled : (level : ℕ) (S : List ℕ) (r : Regs) → Stepped
   -- a map refused, or a child couldn't run, and the machine at that level was told
   Faulted : (level cause address : ℕ) (access : Access) (S : List ℕ) (r : Regs) → Stepped
@@ -71,7 +71,7 @@ too_deep s = record { level = 0; cause = 5; address = 4096 * s; access = Read }
 abbrev pub child_step : Machine → List ℕ → List Slot → ℕ → Regs → ℕ → Option Held → Stepped
 child_step deeper S F j r g None = told S j r g (malformed j r.next)
 child_step deeper S F j r g (Some held) =
-    put_back S j r g (deeper S (composed S F j held.pages held.table held.version) (j + 1) 0 held.regs)
+    put_back S j r g (deeper S (compose S F j held.pages held.table held.version) (j + 1) 0 held.regs)
 
 abbrev pub child_through : Machine → List ℕ → List Slot → ℕ → Regs → Way → Stepped
 child_through deeper S F j r (Open g) = child_step deeper S F j r g (block_of S g)

@@ -8,7 +8,7 @@ use Rattle.hv_cpu.specs.Lines.{lines, unlined}
 use Rattle.hv_store.specs.declared.access.Slot.{Slot}
 use Rattle.hv_store.specs.Access.{identity}
 use Rattle.hv_map.specs.Item.{Item}
-use Rattle.hv_map.specs.Compose.{composed, reading, table_of}
+use Rattle.hv_map.specs.Compose.{compose, reading, table_of}
 use Rattle.hv_map.specs.Chain.{map_along}
 use Rattle.hv_map.specs.Apart.{table_open, directory_of, table_pages, open_pages}
 use Rattle.hv_nest.specs.declared.outcome.StepKind.{StepKind}
@@ -54,7 +54,7 @@ item_foot S F j x =
 
 unfoldable pub chain_foot : List ℕ → List Slot → ℕ → List Item → List ℕ
 chain_foot S F j [] = []
-chain_foot S F j (x ∷ xs) = item_foot S F j x ++ chain_foot S (composed S F j x.pages x.table x.version) (j + 1) xs
+chain_foot S F j (x ∷ xs) = item_foot S F j x ++ chain_foot S (compose S F j x.pages x.table x.version) (j + 1) xs
 
 -- the block of the last machine
 abbrev pub last_block : List Item → Option ℕ

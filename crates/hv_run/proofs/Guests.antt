@@ -4,7 +4,7 @@ use Rattle.std.proofs.lemmas.List.{take_all}
 use Rattle.hv_word.specs.Storage.{page_count}
 use Rattle.hv_cpu.specs.Regs.{Regs}
 use Rattle.hv_map.specs.Item.{Item}
-use Rattle.hv_map.specs.Chain.{map_along, pinned}
+use Rattle.hv_map.specs.Chain.{map_along, pin_of}
 use Rattle.hv_map.specs.Apart.{is_apart}
 use Rattle.hv_map.specs.Seen.{seen}
 use Rattle.hv_nest.specs.State.{State}
@@ -69,7 +69,7 @@ whole_by start moves h path items eh ep ei base =
     (subst (λ (xs : List Item). Whole start moves 0 [] xs) (sym ei) base))
 
 -- after some moves
-bare_after : (start : State) (moves : List Move) (w : WatchOf) (items : List Item) (t : Tally) → IsWatchable start w → IsSized start w → AreMasked moves → pinned start.storage w.path ≡ Some items → is_apart start.storage items ≡ true
+bare_after : (start : State) (moves : List Move) (w : WatchOf) (items : List Item) (t : Tally) → IsWatchable start w → IsSized start w → AreMasked moves → pin_of start.storage w.path ≡ Some items → is_apart start.storage items ≡ true
     → t ≡ tally_of w.hart w.path items (foot start.storage items) start moves no_tally → t.touched ≡ false
     → IsAsBare start w items (last_of start moves) (twin_after start w items t)
 bare_after start moves w items t can sized masked e d told quiet =
@@ -99,7 +99,7 @@ guests start moves (w ∷ ws) can sized masked =
     (one_guest start moves w can.0 sized.0 masked, guests start moves ws can.1 sized.1 masked)
 
 -- what that says of the end of the run, for a watch that tells that it stood apart and wasn't touched
-pub at_last : (start : State) (moves : List Move) (w : WatchOf) (items : List Item) (t : Tally) → IsBareRun start moves w → pinned start.storage w.path ≡ Some items → t ≡ tally_of w.hart w.path items (foot start.storage items) start moves no_tally
+pub at_last : (start : State) (moves : List Move) (w : WatchOf) (items : List Item) (t : Tally) → IsBareRun start moves w → pin_of start.storage w.path ≡ Some items → t ≡ tally_of w.hart w.path items (foot start.storage items) start moves no_tally
     → (told_by w start items t).apart ≡ true → (told_by w start items t).touched ≡ false → IsAsBare start w items (last_of start moves) (twin_after start w items t)
 at_last start moves w items t bare e told d quiet =
     let all : take (length moves) moves ≡ moves = take_all (length moves) moves (omega arith) in

@@ -6,7 +6,7 @@ use Rattle.std.proofs.lemmas.List.{length_push}
 use Rattle.hv_word.specs.Storage.{word_at}
 use Rattle.hv_cpu.specs.Lines.{lines, unlined}
 use Rattle.hv_map.specs.Item.{Item}
-use Rattle.hv_map.specs.Chain.{pinned}
+use Rattle.hv_map.specs.Chain.{pin_of}
 use Rattle.hv_nest.specs.State.{State}
 use Rattle.hv_nest.specs.Move.{Move, state_after, last_of}
 use Rattle.hv_nest.specs.Watched.{LineChange, Tally, no_tally, are_same, same_status, keeps_foot, foot, last_block, lines_of, is_counted, beside, tally_after, tally_of}
@@ -152,7 +152,7 @@ watch_kept w start st next items t h k told kept = record {
 
 -- what is told of all watches
 abbrev pub all_told : State → List Move → List WatchOf → List WatchTold
-all_told start ms ws = flat_map (λ (w : WatchOf). told_at w start ms (pinned start.storage w.path)) ws
+all_told start ms ws = flat_map (λ (w : WatchOf). told_at w start ms (pin_of start.storage w.path)) ws
 
 abbrev OneMore : State → List Move → Move → State → Happened → WatchOf → Option (List Item) → Watching → List WatchTold → List WatchTold → Type 0
 OneMore start ms move next h w o k rest more =
@@ -182,7 +182,7 @@ each_more all start ms move next h [] (k ∷ ks) among tells kept e = absurd kep
 each_more all start ms move next h (w ∷ ws) [] among tells kept e = absurd kept
 each_more all start ms move next h (w ∷ ws) (k ∷ ks) among tells kept e =
     let some : all ≢ [] = among (with_one k ks) in
-    let o = pinned start.storage w.path in
+    let o = pin_of start.storage w.path in
     let head : OneMore start ms move next h w o k (rows_told ks) (all_told start ms ws) = one_more all some start ms move next h w o k (rows_told ks) (all_told start ms ws) tells kept.0 e in
     let tail = each_more all start ms move next h ws ks (λ more. some) tells kept.1 head.2 in (
       ap (λ (xs : List WatchTold). xs ++ rows_told (all_after h next ks)) head.0

@@ -2,7 +2,7 @@
 use Rattle.std.proofs.Common.{◌≡◌, ℕ, zero, suc, ◌+◌, ◌<◌, ◌≤◌, Option, Some, None, List, [], ◌∷◌, ◌++◌, length, get_or, take, refl, sym, ap, subst, ◌∙◌, arith}
 use Rattle.std.proofs.lemmas.List.{take_more, map_push}
 use Rattle.hv_map.specs.Item.{Item}
-use Rattle.hv_map.specs.Chain.{pinned}
+use Rattle.hv_map.specs.Chain.{pin_of}
 use Rattle.hv_map.specs.declared.path.Watch.{Watch}
 use Rattle.hv_nest.specs.State.{State}
 use Rattle.hv_nest.specs.Move.{last_of}
@@ -49,9 +49,9 @@ all_none start [] [] each = (refl, tt)
 all_none start [] (k ∷ ks) each = absurd each
 all_none start (w ∷ ws) [] each = absurd each
 all_none start (w ∷ ws) (k ∷ ks) each =
-    let head = none_told start w (pinned start.storage w.path) k each.0 in
+    let head = none_told start w (pin_of start.storage w.path) k each.0 in
     let tail = all_none start ws ks each.1 in (
-      ap (λ (xs : List WatchTold). xs ++ rows_told ks) head.0 ∙ ap (λ (ys : List WatchTold). told_at w start [] (pinned start.storage w.path) ++ ys) tail.0,
+      ap (λ (xs : List WatchTold). xs ++ rows_told ks) head.0 ∙ ap (λ (ys : List WatchTold). told_at w start [] (pin_of start.storage w.path) ++ ys) tail.0,
       (head.1, tail.1),
     )
 
@@ -64,14 +64,14 @@ all_sized : (start : State) (ws : List WatchOf) (ks : List Watching) → EachNew
 all_sized start [] ks each = tt
 all_sized start (w ∷ ws) [] each = absurd each
 all_sized start (w ∷ ws) (k ∷ ks) each =
-    (sized_at start w (pinned start.storage w.path) k each.0, all_sized start ws ks each.1)
+    (sized_at start w (pin_of start.storage w.path) k each.0, all_sized start ws ks each.1)
 
 -- no number of them is above 0
 pub new_within : (start : State) (ws : List WatchOf) (ks : List Watching) → EachNew start ws ks → TellsWithin 0 ks
 new_within start ws [] each i d lt = absurd (omega arith)
 new_within start [] (k ∷ ks) each i d lt = absurd each
 new_within start (w ∷ ws) (k ∷ ks) each zero d lt =
-    let e = none_told start w (pinned start.storage w.path) k each.0 in (omega (arith, e.2.0), omega (arith, e.2.1))
+    let e = none_told start w (pin_of start.storage w.path) k each.0 in (omega (arith, e.2.0), omega (arith, e.2.1))
 new_within start (w ∷ ws) (k ∷ ks) each (suc i) d lt = new_within start ws ks each.1 i d (omega arith)
 
 pub new_length : (start : State) (ws : List Watch) (ks : List Watching) → EachNew start (watches_of ws) ks → length ks ≡ length ws

@@ -5,7 +5,7 @@ use Rattle.hv_cpu.specs.Regs.{Regs}
 use Rattle.hv_store.specs.declared.access.Refusal.{Refusal}
 use Rattle.hv_block.specs.Block.{regs_at}
 use Rattle.hv_map.specs.Item.{Item}
-use Rattle.hv_map.specs.Chain.{map_along, pinned, running_path}
+use Rattle.hv_map.specs.Chain.{map_along, pin_of, running_path}
 use Rattle.hv_map.specs.Apart.{is_apart}
 use Rattle.hv_map.specs.Carried.{Agree}
 use Rattle.hv_map.specs.Seen.{seen}
@@ -31,7 +31,7 @@ abbrev pub is_touched_by : State → List Move → WatchOf → List Item → ℕ
 is_touched_by start moves w items k = (tally_at start moves w items k).touched
 
 -- a bare machine of one hart that began with the storage that the watched one saw at the start, and with its registers, and
--- that made the steps and got the changes of its interrupt lines which are told of these moves
+-- that made the steps and get the changes of its interrupt lines which are told of these moves
 abbrev pub twin_after : State → WatchOf → List Item → Tally → State
 twin_after start w items t = bare_of (seen start.storage (map_along start.storage items)) (own w.hart items start) t.changes t.count
 
@@ -59,7 +59,7 @@ pub record IsAsBare (start : State) (w : WatchOf) (items : List Item) (st bare :
 abbrev pub IsBareRun : State → List Move → WatchOf → Type 0
 IsBareRun start moves w =
     (items : List Item) (k : ℕ)
-    → pinned start.storage w.path ≡ Some items
+    → pin_of start.storage w.path ≡ Some items
     → is_apart start.storage items ≡ true
     → k ≤ length moves
     → is_touched_by start moves w items k ≡ false
@@ -95,7 +95,7 @@ fault_in (Fault l c address a) = Some record { level = l; cause = c; address = a
 -- them has a pending interrupt, and else there is no fault.
 pub record IsRoutedFrom (S : List ℕ) (hart : ℕ) (r : Regs) (fault : Option Refusal) : Type 0 where
   pub items : List Item
-  pub there : pinned S (running_path S r) ≡ Some items
+  pub there : pin_of S (running_path S r) ≡ Some items
   pub calm : IsTrue (is_calm S items r) → IsRouted S (running_path S r) (map_along S items) (hart_along items hart) (regs_along S items r) fault
   pub busy : IsFalse (is_calm S items r) → fault ≡ None
 

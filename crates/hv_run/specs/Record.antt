@@ -6,7 +6,7 @@ use Rattle.hv_store.specs.declared.access.Access.{Access}
 use Rattle.hv_irq.specs.declared.Event.{Event}
 use Rattle.hv_irq.specs.declared.Event.TheVariants.{Turn, Lines}
 use Rattle.hv_map.specs.Item.{Item}
-use Rattle.hv_map.specs.Chain.{pinned}
+use Rattle.hv_map.specs.Chain.{pin_of}
 use Rattle.hv_map.specs.Apart.{is_one, is_apart}
 use Rattle.hv_nest.specs.declared.outcome.StepKind.{StepKind}
 use Rattle.hv_nest.specs.declared.outcome.StepKind.TheVariants.{Worked as WorkedKind, Recall, Fault}
@@ -115,4 +115,4 @@ told_of_count c watches = record { steps = c.steps; faults = length c.faults; re
 unfoldable pub record_of : State → List Move → List WatchOf → Told
 record_of start moves watches =
     told_of_count (count_of start moves no_count)
-    (flat_map (λ (w : WatchOf). told_at w start moves (pinned start.storage w.path)) watches)
+    (flat_map (λ (w : WatchOf). told_at w start moves (pin_of start.storage w.path)) watches)

@@ -2,7 +2,7 @@
 use Rattle.std.specs.Prelude.{◌≡◌, ℕ, ◌*◌, ◌<◌, ◌≤◌, List, [], ◌∷◌, ◌++◌, length, map, Option, Some, None}
 use Rattle.hv_word.specs.Storage.{page_count}
 use Rattle.hv_map.specs.Item.{Item}
-use Rattle.hv_map.specs.Chain.{depth_limit, map_along, pinned}
+use Rattle.hv_map.specs.Chain.{depth_limit, map_along, pin_of}
 use Rattle.hv_map.specs.declared.path.Watch.{Watch}
 use Rattle.hv_nest.specs.State.{State}
 use Rattle.hv_nest.specs.Move.{Move, last_of}
@@ -33,7 +33,7 @@ IsPinned S (Some items) = length (map_along S items) ≤ 16384
 -- machine only where it has one hart.
 pub record IsWatchable (start : State) (w : WatchOf) : Type 0 where
   pub hart : w.hart < length start.harts
-  pub machine : IsPinned start.storage (pinned start.storage w.path)
+  pub machine : IsPinned start.storage (pin_of start.storage w.path)
   pub bare : w.path ≡ [] → length start.harts ≡ 1
 
 abbrev pub CanWatch : State → List WatchOf → Type 0
@@ -58,7 +58,7 @@ abbrev pub EachKept : State → State → List WatchOf → List Watching → Typ
 EachKept start now [] [] = Unit {0}
 EachKept start now [] (k ∷ ks) = ⊥
 EachKept start now (w ∷ ws) [] = ⊥
-EachKept start now (w ∷ ws) (k ∷ ks) = KeptOf start now w (pinned start.storage w.path) k × EachKept start now ws ks
+EachKept start now (w ∷ ws) (k ∷ ks) = KeptOf start now w (pin_of start.storage w.path) k × EachKept start now ws ks
 
 -- a watch of a play that has made no move
 abbrev pub NewAt : State → WatchOf → Option (List Item) → Watching → Type 0
@@ -67,7 +67,7 @@ NewAt start w (Some items) kept =
     (kept.told ≡ told_by w start items no_tally) × IsKept start start w items kept × IsSized start w
 
 abbrev pub IsNew : State → WatchOf → Watching → Type 0
-IsNew start w kept = NewAt start w (pinned start.storage w.path) kept
+IsNew start w kept = NewAt start w (pin_of start.storage w.path) kept
 
 abbrev pub EachNew : State → List WatchOf → List Watching → Type 0
 EachNew start [] [] = Unit {0}

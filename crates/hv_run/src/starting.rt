@@ -2,7 +2,7 @@
 
 ghost use Rattle.std.specs.Prelude.{◌≡◌, ◌≤◌, ◌-◌, ◌<◌, [], Some, IfOk, length, map, slice_get};
 ghost use Rattle.std.specs.Option.{option_map};
-ghost use Rattle.hv_map.specs.Chain.{depth_limit, pinned};
+ghost use Rattle.hv_map.specs.Chain.{depth_limit, pin_of};
 ghost use Rattle.hv_map.specs.Links.{syllable_of};
 ghost use Rattle.hv_nest.specs.Watched.{last_block, no_tally};
 ghost use Rattle.hv_run.specs.Stands.{IsNew, IsWatchable, NewAt, watch_of};
@@ -36,7 +36,7 @@ fn start_on<N: Nested>(
     watch: &Watch,
     chain: &Chain,
 ) -> Result<Watched, AllocError>
-    requires { pinned (N.state nested.now).storage (map syllable_of chain.now) ≡ Some chain.now }
+    requires { pin_of (N.state nested.now).storage (map syllable_of chain.now) ≡ Some chain.now }
     ensures { IfOk result (λ w. NewAt (N.state nested.now) (watch_of watch.now) (Some chain.now) w) }
 {
     let store = nested.parked();

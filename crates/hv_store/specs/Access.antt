@@ -37,14 +37,14 @@ abbrev pub read_through : List ℕ → Way → ℕ → Access → Result ℕ Ref
 read_through S (Open g) k a = Ok (word_at S g k)
 read_through S (Shut l c p w) k a = Err (refused l c p w k a)
 
-abbrev pub got_at : List ℕ → Option Slot → ℕ → Access → Option (Result ℕ Refusal)
-got_at S None k a = None
-got_at S (Some s) k a = Some (read_through S (way_for s a) k a)
+abbrev pub get_at : List ℕ → Option Slot → ℕ → Access → Option (Result ℕ Refusal)
+get_at S None k a = None
+get_at S (Some s) k a = Some (read_through S (way_for s a) k a)
 
 -- Word k of a page of the machine with the map F, for an access a: none where the machine has no such page, and else the
 -- word or the refusal.
-abbrev pub got : List ℕ → List Slot → ℕ → ℕ → Access → Option (Result ℕ Refusal)
-got S F page k a = got_at S (slice_get F page) k a
+abbrev pub get : List ℕ → List Slot → ℕ → ℕ → Access → Option (Result ℕ Refusal)
+get S F page k a = get_at S (slice_get F page) k a
 
 -- the storage after a write of the lane of word k through a way
 abbrev pub write_through : List ℕ → Way → ℕ → Lane → ℕ → Result (List ℕ) Refusal
@@ -56,8 +56,8 @@ put_at S None k lane v = None
 put_at S (Some s) k lane v = Some (write_through S s.write k lane v)
 
 -- The storage after a write of a lane of word k of a page of the machine with the map F; a refusal gives no new storage.
-abbrev pub put_in : List ℕ → List Slot → ℕ → ℕ → Lane → ℕ → Option (Result (List ℕ) Refusal)
-put_in S F page k lane v = put_at S (slice_get F page) k lane v
+abbrev pub set : List ℕ → List Slot → ℕ → ℕ → Lane → ℕ → Option (Result (List ℕ) Refusal)
+set S F page k lane v = put_at S (slice_get F page) k lane v
 
 -- the storage with words 72 to 74 of bare page g zero, where a control block keeps the last fault
 abbrev pub without_fault : List ℕ → ℕ → List ℕ

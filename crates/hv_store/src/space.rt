@@ -35,7 +35,7 @@ pub trait Space {
     /// room for one makes at most one such call, as its last.
     ghost room: { Self → ℕ };
 
-    ghost use Rattle.hv_store.specs.Access.{got, put_in, cleared, with_storage};
+    ghost use Rattle.hv_store.specs.Access.{get, set, cleared, with_storage};
 
     /// The number of the machine's pages.
     fn pages(&self) -> u32
@@ -46,7 +46,7 @@ pub trait Space {
         requires page { page < length (slots self.old) }
         requires word { word < 1024 }
         requires room { 0 < room self.old }
-        ensures gives { Some result ≡ got (storage self.old) (slots self.old) page word access }
+        ensures gives { Some result ≡ get (storage self.old) (slots self.old) page word access }
         ensures level { IfErr result (λ e. e.level < depth self.old) }
         ensures storage { storage self.new ≡ storage self.old }
         ensures slots { slots self.new ≡ slots self.old }
@@ -62,7 +62,7 @@ pub trait Space {
         requires word { word < 1024 }
         requires lane { IsLane lane }
         requires room { 0 < room self.old }
-        ensures gives { Some (with_storage result (storage self.new)) ≡ put_in (storage self.old) (slots self.old) page word lane value }
+        ensures gives { Some (with_storage result (storage self.new)) ≡ set (storage self.old) (slots self.old) page word lane value }
         ensures len { length (storage self.new) ≡ length (storage self.old) }
         ensures level { IfErr result (λ e. e.level < depth self.old) }
         ensures err_storage { OnErr result (storage self.new ≡ storage self.old) }

@@ -7,7 +7,7 @@ use Rattle.hv_store.specs.declared.access.Access.{Access}
 use Rattle.hv_store.specs.declared.access.Access.TheVariants.{Read, Write, Fetch}
 use Rattle.hv_store.specs.declared.access.Refusal.{Refusal}
 use Rattle.hv_store.specs.declared.access.Slot.{Slot}
-use Rattle.hv_store.specs.Access.{got}
+use Rattle.hv_store.specs.Access.{get}
 use Rattle.hv_sv32.specs.Entry.{is_faulty, is_leaf, is_plain, page_of, effective_mode, grants}
 use Rattle.hv_sv32.specs.Stop.{Walked, Found, TrapWith, RefusedBy}
 
@@ -46,7 +46,7 @@ from_second F r address a (Some (Ok e)) = at_second F r address a e
 
 -- through the second table, which is a page of the machine; bits 21:12 of the address choose the entry
 abbrev pub through_second : List ℕ → List Slot → Regs → ℕ → ℕ → Access → Walked
-through_second S F r table address a = from_second F r address a (got S F table (field_of address 12 10) Read)
+through_second S F r table address a = from_second F r address a (get S F table (field_of address 12 10) Read)
 
 -- the page that a leaf of the first level names: it has 1024 pages, of which bits 21:12 of the address take one
 abbrev pub large_page : ℕ → ℕ → ℕ
@@ -68,7 +68,7 @@ from_first S F r address a (Some (Ok e)) = at_first S F r address a e
 
 -- through the first table, whose page bits 21:0 of satp name; bits 31:22 of the address choose the entry
 abbrev pub through_first : List ℕ → List Slot → Regs → ℕ → Access → Walked
-through_first S F r address a = from_first S F r address a (got S F (field_of r.satp 0 22) (field_of address 22 10) Read)
+through_first S F r address a = from_first S F r address a (get S F (field_of r.satp 0 22) (field_of address 22 10) Read)
 
 -- Whether an access isn't translated: in mode M, or while bit 31 of satp is clear. Its address is then that of the storage.
 abbrev pub is_bare : Regs → Access → Bool

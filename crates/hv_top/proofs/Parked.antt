@@ -10,8 +10,8 @@ use Rattle.hv_store.specs.declared.access.Way.TheVariants.{Open, Shut}
 use Rattle.hv_store.specs.Access.{identity}
 use Rattle.hv_block.specs.Block.{Held, block_of}
 use Rattle.hv_map.specs.Item.{Item}
-use Rattle.hv_map.specs.Compose.{composed}
-use Rattle.hv_map.specs.Chain.{along, map_along, child_held, child_through, child_at, child_of, option_cons, machines, pinned}
+use Rattle.hv_map.specs.Compose.{compose}
+use Rattle.hv_map.specs.Chain.{along, map_along, child_held, child_through, child_at, child_of, option_cons, machines, pin_of}
 use Rattle.hv_map.proofs.Slots.{length-composed}
 use Rattle.hv_nest.specs.Watched.{last_block}
 
@@ -41,7 +41,7 @@ child_block S F s x e = at (slice_get F s) e
 
 -- what is behind the child that x describes
 abbrev behind_child : List ℕ → List Slot → ℕ → List ℕ → Item → Option (List Item)
-behind_child S F j path x = machines S (composed S F j x.pages x.table x.version) (j + 1) path
+behind_child S F j path x = machines S (compose S F j x.pages x.table x.version) (j + 1) path
 
 -- that of the last machine
 last_parked : (path : List ℕ) (S : List ℕ) (F : List Slot) (j : ℕ) (items : List Item) (g : ℕ) → machines S F j path ≡ Some items → last_block items ≡ Some g → HasBlock S g (length (along S F j items))
@@ -51,16 +51,16 @@ last_parked [] S F j items g e b =
     let no : last_block [] ≡ Some g = ap last_block none ∙ b in
     absurd (cc)
 last_parked (s ∷ path) S F j items g e b =
-    at (λ x xs. last_parked path S (composed S F j x.pages x.table x.version) (j + 1) xs g) (child_of S F s) refl e
+    at (λ x xs. last_parked path S (compose S F j x.pages x.table x.version) (j + 1) xs g) (child_of S F s) refl e
   where
-    at : ((x : Item) (xs : List Item) → behind_child S F j path x ≡ Some xs → last_block xs ≡ Some g → HasBlock S g (length (along S (composed S F j x.pages x.table x.version) (j + 1) xs))) → (o : Option Item) → child_of S F s ≡ o → option_and_then (λ (x : Item). option_cons x (behind_child S F j path x)) o ≡ Some items → HasBlock S g (length (along S F j items))
+    at : ((x : Item) (xs : List Item) → behind_child S F j path x ≡ Some xs → last_block xs ≡ Some g → HasBlock S g (length (along S (compose S F j x.pages x.table x.version) (j + 1) xs))) → (o : Option Item) → child_of S F s ≡ o → option_and_then (λ (x : Item). option_cons x (behind_child S F j path x)) o ≡ Some items → HasBlock S g (length (along S F j items))
     at deeper None there h = absurd (cc)
     at deeper (Some x) there h = behind (behind_child S F j path x) refl h
       where
         own : (xs : List Item) → behind_child S F j path x ≡ Some xs → last_block (x ∷ xs) ≡ Some g → HasBlock S g (length (along S F j (x ∷ xs)))
         own [] m l =
             let here : x.block ≡ g = same_Some x.block g l in
-            subst (λ (k : ℕ). HasBlock S k (length (composed S F j x.pages x.table x.version))) here
+            subst (λ (k : ℕ). HasBlock S k (length (compose S F j x.pages x.table x.version))) here
             (subst (HasBlock S x.block) (sym (length-composed S F j x.pages x.table x.version)) (child_block S F s x there))
         own (y ∷ ys) m l = deeper x (y ∷ ys) m l
 
@@ -70,6 +70,6 @@ last_parked (s ∷ path) S F j items g e b =
             let same : x ∷ xs ≡ items = same_Some (x ∷ xs) items i in
             subst (λ (zs : List Item). HasBlock S g (length (along S F j zs))) same (own xs m (ap last_block same ∙ b))
 
-pub pinned_parked : (S path : List ℕ) (items : List Item) (g : ℕ) → pinned S path ≡ Some items → last_block items ≡ Some g → HasBlock S g (length (map_along S items))
-unfolding pinned map_along
+pub pinned_parked : (S path : List ℕ) (items : List Item) (g : ℕ) → pin_of S path ≡ Some items → last_block items ≡ Some g → HasBlock S g (length (map_along S items))
+unfolding pin_of map_along
 pinned_parked S path items g e b = last_parked path S (identity (page_count S)) 0 items g e b

@@ -5,7 +5,7 @@ use Rattle.std.specs.List.{All}
 use Rattle.std.proofs.lemmas.List.Elements.{All-nil, All-cons, All-append}
 use Rattle.hv_word.specs.Storage.{page_count}
 use Rattle.hv_map.specs.Item.{Item}
-use Rattle.hv_map.specs.Chain.{pinned}
+use Rattle.hv_map.specs.Chain.{pin_of}
 use Rattle.hv_apart.proofs.Machines.{pinned_own, pinned_fits}
 use Rattle.hv_nest.specs.State.{State}
 use Rattle.hv_nest.specs.Move.{Move, last_of}
@@ -22,26 +22,26 @@ block_of_last P [] each = tt
 block_of_last P (x ∷ []) each = each 0 x refl
 block_of_last P (x ∷ (y ∷ ys)) each = block_of_last P (y ∷ ys) (λ i z is. each (suc i) z is)
 
-pub block_inside : (S path : List ℕ) (items : List Item) → pinned S path ≡ Some items → IfSome (last_block items) (λ g. g < page_count S)
+pub block_inside : (S path : List ℕ) (items : List Item) → pin_of S path ≡ Some items → IfSome (last_block items) (λ g. g < page_count S)
 block_inside S path items is = block_of_last (λ g. g < page_count S) items (λ i x at. (pinned_fits S items i x (pinned_own S path items is) at).block)
 
 module _ (start : State) (moves : List Move) where
   pages : page_count (last_of start moves).storage ≡ page_count start.storage
   pages = ap (λ (n : ℕ). n / 1024) (run_long start moves)
 
-  there_one : (w : WatchOf) → IsWatchable start w → All (IsThere (last_of start moves)) (told_at w start moves (pinned start.storage w.path))
-  there_one w can = at (pinned start.storage w.path) refl can.machine
+  there_one : (w : WatchOf) → IsWatchable start w → All (IsThere (last_of start moves)) (told_at w start moves (pin_of start.storage w.path))
+  there_one w can = at (pin_of start.storage w.path) refl can.machine
     where
-      at : (o : Option (List Item)) → pinned start.storage w.path ≡ o → IsPinned start.storage o → All (IsThere (last_of start moves)) (told_at w start moves o)
+      at : (o : Option (List Item)) → pin_of start.storage w.path ≡ o → IsPinned start.storage o → All (IsThere (last_of start moves)) (told_at w start moves o)
       at None is h = absurd h
       at (Some items) is h =
           All-cons (IsThere (last_of start moves)) (told_by w start items (tally_of w.hart w.path items (foot start.storage items) start moves no_tally)) []
           (omega (arith, can.hart, run_harts start moves), subst (λ (n : ℕ). IfSome (last_block items) (λ g. g < n)) (sym pages) (block_inside start.storage w.path items is))
           (All-nil (IsThere (last_of start moves)))
 
-  there_each : (ws : List WatchOf) → EachWatch (IsWatchable start) ws → All (IsThere (last_of start moves)) (flat_map (λ (w : WatchOf). told_at w start moves (pinned start.storage w.path)) ws)
+  there_each : (ws : List WatchOf) → EachWatch (IsWatchable start) ws → All (IsThere (last_of start moves)) (flat_map (λ (w : WatchOf). told_at w start moves (pin_of start.storage w.path)) ws)
   there_each [] can = All-nil (IsThere (last_of start moves))
-  there_each (w ∷ ws) can = All-append (IsThere (last_of start moves)) (told_at w start moves (pinned start.storage w.path)) (flat_map (λ (w : WatchOf). told_at w start moves (pinned start.storage w.path)) ws) (there_one w can.0) (there_each ws can.1)
+  there_each (w ∷ ws) can = All-append (IsThere (last_of start moves)) (told_at w start moves (pin_of start.storage w.path)) (flat_map (λ (w : WatchOf). told_at w start moves (pin_of start.storage w.path)) ws) (there_one w can.0) (there_each ws can.1)
 
   pub there : (ws : List WatchOf) → CanWatch start ws → AreThere (last_of start moves) (record_of start moves ws).watches
   unfolding record_of

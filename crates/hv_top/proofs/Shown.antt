@@ -6,7 +6,7 @@ use Rattle.std.proofs.lemmas.Bool.{le-leb, lt-leb}
 use Rattle.std.proofs.lemmas.List.{take_all}
 use Rattle.hv_cpu.specs.Regs.{Regs, spelled}
 use Rattle.hv_map.specs.Item.{Item}
-use Rattle.hv_map.specs.Chain.{map_along, map_of, pinned}
+use Rattle.hv_map.specs.Chain.{map_along, map_of, pin_of}
 use Rattle.hv_map.specs.Apart.{is_one, is_apart}
 use Rattle.hv_map.specs.Seen.{seen}
 use Rattle.hv_nest.specs.State.{State}
@@ -86,7 +86,7 @@ module _ (start last : State) (w : WatchOf) (items : List Item) (t : Tally) wher
   abbrev told_twin : Bool → Option (List ℕ)
   told_twin b = cond b (option_map (bare_words start (told_by w start items t)) (map_of start.storage w.path)) None
 
-  pub shown_by : pinned start.storage w.path ≡ Some items
+  pub shown_by : pin_of start.storage w.path ≡ Some items
       → is_one start.storage items ≡ true
       → is_apart start.storage items ≡ true
       → t.touched ≡ false

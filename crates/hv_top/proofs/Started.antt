@@ -3,7 +3,7 @@ use Rattle.std.proofs.Common.{◌≡◌, ℕ, Option, Some, None, List, [], ◌�
 use Rattle.std.specs.List.{All}
 use Rattle.hv_cpu.specs.Regs.{Regs}
 use Rattle.hv_map.specs.Item.{Item}
-use Rattle.hv_map.specs.Chain.{pinned}
+use Rattle.hv_map.specs.Chain.{pin_of}
 use Rattle.hv_map.specs.declared.path.Watch.{Watch}
 use Rattle.hv_nest.specs.Kinds.{NextBelow}
 use Rattle.hv_run.specs.Stands.{CanWatch, IsPinned, watches_of}
@@ -16,7 +16,7 @@ pins S (Some items) h = h
 pub watchable : (S : List ℕ) (hs : List Regs) (ws : List Watch) → EachWatched S (length hs) ws → CanWatch (record { storage = S; harts = hs }) (watches_of ws)
 watchable S hs [] each = tt
 watchable S hs (w ∷ ws) each = (
-  record { hart = each.0.hart; machine = pins S (pinned S w.path) each.0.machine; bare = each.0.bare },
+  record { hart = each.0.hart; machine = pins S (pin_of S w.path) each.0.machine; bare = each.0.bare },
   watchable S hs ws each.1,
 )
 

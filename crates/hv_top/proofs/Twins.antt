@@ -8,7 +8,7 @@ use Rattle.hv_cpu.specs.Regs.{Regs}
 use Rattle.hv_store.specs.declared.access.Slot.{Slot}
 use Rattle.hv_block.specs.Block.{Held, block_of}
 use Rattle.hv_map.specs.Item.{Item}
-use Rattle.hv_map.specs.Chain.{map_along, map_of, pinned}
+use Rattle.hv_map.specs.Chain.{map_along, map_of, pin_of}
 use Rattle.hv_map.specs.Seen.{seen}
 use Rattle.hv_nest.specs.Kinds.{NextBelow}
 use Rattle.hv_twin.proofs.Copies.{length-seen}
@@ -22,16 +22,16 @@ pages_seen S F T is =
     let long : length T ≡ 1024 * length F = ap (λ (ws : List ℕ). length ws) is ∙ length-seen S F in
     omega (arith, long)
 
-pub next_there : (S path : List ℕ) (items : List Item) (T : List ℕ) (r : Regs) → Some items ≡ pinned S path → T ≡ seen S (map_along S items) → IfSome (map_of S path) (λ F. NextBelow (length F) r) → NextBelow (page_count T) r
+pub next_there : (S path : List ℕ) (items : List Item) (T : List ℕ) (r : Regs) → Some items ≡ pin_of S path → T ≡ seen S (map_along S items) → IfSome (map_of S path) (λ F. NextBelow (length F) r) → NextBelow (page_count T) r
 next_there S path items T r e is next =
     subst (λ (n : ℕ). NextBelow n r) (pages_seen S (map_along S items) T is)
     (subst (λ (o : Option (List Item)). IfSome (option_map (map_along S) o) (λ F. NextBelow (length F) r)) (sym e) next)
 
 -- a block that is told
-pub parked_inside : (S path : List ℕ) (g : ℕ) (block : Option ℕ) → IsMachine S block (pinned S path) → Some g ≡ block → g < page_count S
-parked_inside S path g block h e = at (pinned S path) refl h
+pub parked_inside : (S path : List ℕ) (g : ℕ) (block : Option ℕ) → IsMachine S block (pin_of S path) → Some g ≡ block → g < page_count S
+parked_inside S path g block h e = at (pin_of S path) refl h
   where
-    at : (o : Option (List Item)) → pinned S path ≡ o → IsMachine S block o → g < page_count S
+    at : (o : Option (List Item)) → pin_of S path ≡ o → IsMachine S block o → g < page_count S
     at None is m = absurd m
     at (Some items) is m = subst (λ (o : Option ℕ). IfSome o (λ k. k < page_count S)) (sym (e ∙ m.0)) (block_inside S path items is)
 
@@ -39,19 +39,19 @@ some_block : (o : Option Held) (held : Held) → o ≡ Some held → IsSome o
 some_block None held e = cc
 some_block (Some h) held e = refl
 
-pub parked_there : (S path : List ℕ) (g : ℕ) (block : Option ℕ) → IsMachine S block (pinned S path) → Some g ≡ block → IsSome (block_of S g)
-parked_there S path g block h e = at (pinned S path) refl h
+pub parked_there : (S path : List ℕ) (g : ℕ) (block : Option ℕ) → IsMachine S block (pin_of S path) → Some g ≡ block → IsSome (block_of S g)
+parked_there S path g block h e = at (pin_of S path) refl h
   where
-    at : (o : Option (List Item)) → pinned S path ≡ o → IsMachine S block o → IsSome (block_of S g)
+    at : (o : Option (List Item)) → pin_of S path ≡ o → IsMachine S block o → IsSome (block_of S g)
     at None is m = absurd m
     at (Some items) is m =
         let b = pinned_parked S path items g is (sym (e ∙ m.0)) in
         some_block (block_of S g) b.held b.block
 
-pub parked_next : (S path : List ℕ) (g : ℕ) (block : Option ℕ) (r : Regs) → IsMachine S block (pinned S path) → Some g ≡ block → IfSome (block_of S g) (λ held. r.next < held.pages) → IfSome (map_of S path) (λ F. NextBelow (length F) r)
-parked_next S path g block r h e below = at (pinned S path) refl h
+pub parked_next : (S path : List ℕ) (g : ℕ) (block : Option ℕ) (r : Regs) → IsMachine S block (pin_of S path) → Some g ≡ block → IfSome (block_of S g) (λ held. r.next < held.pages) → IfSome (map_of S path) (λ F. NextBelow (length F) r)
+parked_next S path g block r h e below = at (pin_of S path) refl h
   where
-    at : (o : Option (List Item)) → pinned S path ≡ o → IsMachine S block o → IfSome (option_map (map_along S) o) (λ F. NextBelow (length F) r)
+    at : (o : Option (List Item)) → pin_of S path ≡ o → IsMachine S block o → IfSome (option_map (map_along S) o) (λ F. NextBelow (length F) r)
     at None is m = tt
     at (Some items) is m = λ some.
         let b = pinned_parked S path items g is (sym (e ∙ m.0)) in

@@ -6,7 +6,7 @@ use Rattle.hv_load.specs.Build.{build_of}
 use Rattle.hv_load.specs.declared.ends.BuildKind.{BuildKind}
 use Rattle.hv_load.specs.declared.start.Start.{Start}
 use Rattle.hv_map.specs.Item.{Item}
-use Rattle.hv_map.specs.Chain.{map_along, pinned}
+use Rattle.hv_map.specs.Chain.{map_along, pin_of}
 use Rattle.hv_nest.specs.State.{State}
 use Rattle.hv_nest.specs.Watched.{last_block}
 use Rattle.hv_report.specs.Check.{check_of}
@@ -40,7 +40,7 @@ IsMachine S block (Some items) = (block ≡ last_block items) × (length (map_al
 -- what always holds of what is told of a watch
 pub record IsRow (start : State) (w : WatchTold) : Type 0 where
   pub hart : w.hart < length start.harts
-  pub machine : IsMachine start.storage w.block (pinned start.storage w.path)
+  pub machine : IsMachine start.storage w.block (pin_of start.storage w.path)
   pub steps : w.count ≤ 10 ^ 9
   pub counts : NeverFalls w.lines
   pub bits : All (λ line. bit_and line.bits lines_mask ≡ line.bits) w.lines

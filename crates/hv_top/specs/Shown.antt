@@ -1,7 +1,7 @@
 -- What the program prints of a watched machine beside the bare machine that runs alone.
 use Rattle.std.specs.Prelude.{◌≡◌, ◌<◌, ◌≤◌, true, false, List, ◌++◌, length, Some, None, codes}
 use Rattle.hv_map.specs.Item.{Item}
-use Rattle.hv_map.specs.Chain.{pinned}
+use Rattle.hv_map.specs.Chain.{pin_of}
 use Rattle.hv_map.specs.Apart.{is_one, is_apart}
 use Rattle.hv_nest.specs.State.{State}
 use Rattle.hv_nest.specs.Move.{Move, last_of}
@@ -29,7 +29,7 @@ tally_over start moves w items = tally_of w.hart w.path items (foot start.storag
 abbrev pub IsShown : State → List Move → WatchOf → Type 0
 IsShown start moves w =
     (items : List Item)
-    → pinned start.storage w.path ≡ Some items
+    → pin_of start.storage w.path ≡ Some items
     → is_one start.storage items ≡ true
     → is_apart start.storage items ≡ true
     → (tally_over start moves w items).touched ≡ false

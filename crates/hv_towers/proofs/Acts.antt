@@ -10,7 +10,7 @@ use Rattle.hv_isa.specs.declared.Op.TheVariants.{Lui, Jal, Addi, Vmenter}
 use Rattle.hv_isa.specs.Table.{decode_of}
 use Rattle.hv_store.specs.declared.access.Slot.{Slot}
 use Rattle.hv_store.specs.declared.access.Access.TheVariants.{Fetch}
-use Rattle.hv_store.specs.Access.{open_at, got_at, without_fault, cleared_at}
+use Rattle.hv_store.specs.Access.{open_at, get_at, without_fault, cleared_at}
 use Rattle.hv_sv32.specs.Stop.{Found}
 use Rattle.hv_sv32.specs.Walk.{outside}
 use Rattle.hv_exec.specs.Act.{Done, entered, carried_out, decoded, fetched, fetch_at, act_of}
@@ -62,12 +62,12 @@ module _ (S : List ℕ) (F : List Slot) (g b hart : ℕ) (program : slice_get F 
   has_page = lt-ltb 0 (length F) (let h : 0 < length F = slice_get_within F 0 (open_at g) program in h)
 
   -- the instruction that is fetched
-  fetches : (r : Regs) (k w : ℕ) (i : Instr) → fetch_at S F hart r (Found 0 (4 * k)) ≡ fetched S F hart r (got_at S (slice_get F 0) k Fetch)
+  fetches : (r : Regs) (k w : ℕ) (i : Instr) → fetch_at S F hart r (Found 0 (4 * k)) ≡ fetched S F hart r (get_at S (slice_get F 0) k Fetch)
       → word_at S g k ≡ w → decode_of w ≡ Some i → fetch_at S F hart r (Found 0 (4 * k)) ≡ carried_out S F r (do_of i w r hart)
   unfolding decoded
   fetches r k w i e is d =
       e
-      ∙ ap (λ (o : Option Slot). fetched S F hart r (got_at S o k Fetch)) program
+      ∙ ap (λ (o : Option Slot). fetched S F hart r (get_at S o k Fetch)) program
       ∙ ap (λ (v : ℕ). decoded S F hart r v (decode_of v)) is
       ∙ ap (decoded S F hart r w) d
 

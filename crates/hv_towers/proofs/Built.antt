@@ -5,7 +5,7 @@ use Rattle.std.proofs.lemmas.List.{ext_get_or}
 use Rattle.hv_word.specs.Storage.{page_count}
 use Rattle.hv_cpu.specs.Regs.{reset_regs}
 use Rattle.hv_store.specs.Access.{open_at}
-use Rattle.hv_map.specs.Chain.{pinned}
+use Rattle.hv_map.specs.Chain.{pin_of}
 use Rattle.hv_map.specs.Seen.{seen}
 use Rattle.hv_map.proofs.Views.{length-seen, word_at-seen}
 use Rattle.hv_job.specs.declared.job.Directive.TheVariants as directive
@@ -125,7 +125,7 @@ built job pages depth top line parts start alone harts few deep short some all i
       laid = record {
         deep = deep;
         short = short;
-        pins = subst (λ (k : ℕ). pinned start.store (replicate k 1) ≡ Some (items_of 0 w.ns)) w.levels (pinned_are start.store pages w.ns count few w.storeys);
+        pins = subst (λ (k : ℕ). pin_of start.store (replicate k 1) ≡ Some (items_of 0 w.ns)) w.levels (pinned_are start.store pages w.ns count few w.storeys);
         apart = apart_are start.store pages w.ns count few w.storeys;
         levels = subst (λ (p : ℕ). LaidFrom start.store 0 0 p (items_of 0 w.ns)) (sym count) (laid_from start.store 0 0 pages w.ns few w.storeys);
         sees = ap (seen start.store) (map_is start.store pages w.ns count few w.storeys ∙ ap (from_base (end_base 0 w.ns)) at_top) ∙ seen_is start.store alone.store top (end_base 0 w.ns) match;

@@ -11,7 +11,7 @@ use Rattle.hv_block.proofs.Blocks.{regs_alike}
 use Rattle.hv_block.proofs.Words.{length-put_regs, put_other, regs_back}
 use Rattle.hv_map.specs.Item.{Item}
 use Rattle.hv_map.specs.Apart.{table_pages}
-use Rattle.hv_map.specs.Compose.{composed}
+use Rattle.hv_map.specs.Compose.{compose}
 use Rattle.hv_map.specs.Chain.{child_next, run_on, running}
 use Rattle.hv_map.specs.Words.{syllables}
 use Rattle.hv_nest.specs.Step.{Stepped, Worked, put_back, worked, step_on, step_of}
@@ -38,12 +38,12 @@ pub record Climbed (S : List ℕ) (items : List Item) (ps : List Phase) (X : Ste
 
 -- the step of a machine that goes on in its child
 pub goes_down : (n : ℕ) (S : List ℕ) (F : List Slot) (j hart : ℕ) (r : Regs) (x : Item) → pending_of r ≡ None → child_next S F r.next ≡ Some x
-    → step_of (suc n) S F j hart r ≡ put_back S j r x.block (step_of n S (composed S F j x.pages x.table x.version) (j + 1) 0 (regs_at S x.block))
+    → step_of (suc n) S F j hart r ≡ put_back S j r x.block (step_of n S (compose S F j x.pages x.table x.version) (j + 1) 0 (regs_at S x.block))
 unfolding step_of
 goes_down n S F j hart r x calm child = ap (step_on (Some (step_of n)) S F j hart r) calm ∙ resumed_goes (step_of n) S F j hart r x child
 
 pub runs_down : (n : ℕ) (S : List ℕ) (F : List Slot) (j : ℕ) (r : Regs) (x : Item) → child_next S F r.next ≡ Some x
-    → running (suc n) S F j r ≡ x.syllable ∷ running n S (composed S F j x.pages x.table x.version) (j + 1) (regs_at S x.block)
+    → running (suc n) S F j r ≡ x.syllable ∷ running n S (compose S F j x.pages x.table x.version) (j + 1) (regs_at S x.block)
 unfolding running
 runs_down n S F j r x child = ap (run_on (running n) S F j) child
 

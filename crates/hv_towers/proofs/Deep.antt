@@ -16,7 +16,7 @@ use Rattle.hv_store.specs.declared.access.Way.TheVariants.{Open, Shut}
 use Rattle.hv_store.specs.Access.{way_for, refused}
 use Rattle.hv_exec.specs.Act.{Acted, Done, Refused, act_of}
 use Rattle.hv_block.specs.Block.{Held, block_of, with_fault, access_word}
-use Rattle.hv_map.specs.Compose.{composed}
+use Rattle.hv_map.specs.Compose.{compose}
 use Rattle.hv_map.proofs.Handed.{composed_level}
 use Rattle.hv_nest.specs.Asks.{Ask, asks, refusal_through, refusal_at, refusal_of, first_refused}
 use Rattle.hv_nest.specs.Step.{Stepped, Worked, Recalled, Faulted, Barred, Machine, idle, interrupted, worked, told, put_back, malformed, child_step, child_through, child_at, descended, step_on, step_of}
@@ -31,7 +31,7 @@ ShutFrom k F =
     → way_for s a ≡ Shut l c p w
     → k ≤ l
 
-pub composed_from : (k : ℕ) (S : List ℕ) (F : List Slot) (j n t v : ℕ) → k ≤ j → ShutFrom k F → ShutFrom k (composed S F j n t v)
+pub composed_from : (k : ℕ) (S : List ℕ) (F : List Slot) (j n t v : ℕ) → k ≤ j → ShutFrom k F → ShutFrom k (compose S F j n t v)
 composed_from k S F j n t v low from y s a l c p w is e = elim (composed_level F j S n t v y s a l c p w is e) [
   | inl h ↦ omega (arith, h, low)
   | inr h ↦ from h.0 h.1 h.2 l h.3 h.4 h.5 h.6 h.7
@@ -102,8 +102,8 @@ module _ (k : ℕ) where
     child_deep : (g : ℕ) (o : Option Held) → PassesDeep k (child_step deeper S F j r g o)
     child_deep g None = told_deep S j r g (malformed j r.next) (inl low)
     child_deep g (Some held) =
-        back_deep S j r g (deeper S (composed S F j held.pages held.table held.version) (j + 1) 0 held.regs)
-        (deep S (composed S F j held.pages held.table held.version) (j + 1) 0 held.regs (omega (arith, low)) (composed_from k S F j held.pages held.table held.version low from))
+        back_deep S j r g (deeper S (compose S F j held.pages held.table held.version) (j + 1) 0 held.regs)
+        (deep S (compose S F j held.pages held.table held.version) (j + 1) 0 held.regs (omega (arith, low)) (composed_from k S F j held.pages held.table held.version low from))
 
     way_deep : (way : Way) → ((l c p : ℕ) (w : Option ℕ) → way ≡ Shut l c p w → k ≤ l) → PassesDeep k (child_through deeper S F j r way)
     way_deep (Open g) h = child_deep g (block_of S g)

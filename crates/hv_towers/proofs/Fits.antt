@@ -24,7 +24,7 @@ use Rattle.hv_store.specs.declared.access.Refusal.{Refusal}
 use Rattle.hv_store.specs.declared.access.Slot.{Slot}
 use Rattle.hv_store.specs.declared.access.Way.{Way}
 use Rattle.hv_store.specs.declared.access.Way.TheVariants.{Open, Shut}
-use Rattle.hv_store.specs.Access.{identity, got, put_in, clear_through, cleared_at, cleared}
+use Rattle.hv_store.specs.Access.{identity, get, set, clear_through, cleared_at, cleared}
 use Rattle.hv_store.proofs.Identity.{length-identity}
 use Rattle.hv_sv32.specs.Stop.{Walked, Found, TrapWith, RefusedBy}
 use Rattle.hv_sv32.specs.Walk.{walk_of}
@@ -36,7 +36,7 @@ use Rattle.hv_exec.specs.Do.{row_answer, do_of}
 use Rattle.hv_exec.specs.Act.{Acted, Done, Refused, trapped, loaded, load_at, stored, store_at, entered, enter_page, enter_at, carried_out, decoded, fetched, fetch_at, act_of}
 use Rattle.hv_block.specs.Block.{Held, block_of, fits_hart, with_fault, access_word}
 use Rattle.hv_map.specs.Chain.{depth_limit}
-use Rattle.hv_map.specs.Compose.{composed}
+use Rattle.hv_map.specs.Compose.{compose}
 use Rattle.hv_nest.specs.Step.{Stepped, Worked, Recalled, Faulted, Barred, Machine, idle, interrupted, worked, told, put_back, malformed, child_step, child_through, child_at, descended, step_on, step_of, host_step_of}
 
 -- registers with another program counter, another general register, another next or another mstatus
@@ -443,7 +443,7 @@ module _ (S : List ℕ) (F : List Slot) (hart : ℕ) (r : Regs) (f : Fit (length
   load_fits address width signed rd offset (Some (Ok v)) = fit_given (length F) r rd _ f
 
   load_found : (address : ℕ) (width : _) (signed : Bool) (rd : ℕ) (w : Walked) → ActFits (length F) (load_at S F r address width signed rd w)
-  load_found address width signed rd (Found page offset) = load_fits address width signed rd offset (got S F page (offset / 4) Read)
+  load_found address width signed rd (Found page offset) = load_fits address width signed rd offset (get S F page (offset / 4) Read)
   load_found address width signed rd (TrapWith cause tval) = trap_fits cause tval
   load_found address width signed rd (RefusedBy e) = tt
 
@@ -453,7 +453,7 @@ module _ (S : List ℕ) (F : List Slot) (hart : ℕ) (r : Regs) (f : Fit (length
   store_fits address (Some (Ok T)) = fit_advanced (length F) r f
 
   store_found : (address : ℕ) (width : _) (v : ℕ) (w : Walked) → ActFits (length F) (store_at S F r address width v w)
-  store_found address width v (Found page offset) = store_fits address (put_in S F page (offset / 4) (lane_at width offset) v)
+  store_found address width v (Found page offset) = store_fits address (set S F page (offset / 4) (lane_at width offset) v)
   store_found address width v (TrapWith cause tval) = trap_fits cause tval
   store_found address width v (RefusedBy e) = tt
 
@@ -503,7 +503,7 @@ module _ (S : List ℕ) (F : List Slot) (hart : ℕ) (r : Regs) (f : Fit (length
 
   fetch_fits : (w : Walked) → ActFits (length F) (fetch_at S F hart r w)
   unfolding fetch_at
-  fetch_fits (Found page offset) = fetched_fits (got S F page (offset / 4) Fetch)
+  fetch_fits (Found page offset) = fetched_fits (get S F page (offset / 4) Fetch)
   fetch_fits (TrapWith cause tval) = trap_fits cause tval
   fetch_fits (RefusedBy e) = tt
 
@@ -549,7 +549,7 @@ module _ (n : ℕ) (r : Regs) (f : Fit n r) where
   module _ (deeper : Machine) (S : List ℕ) (F : List Slot) (j : ℕ) where
     child_fits : (g : ℕ) (o : Option Held) → StepFits n (child_step deeper S F j r g o)
     child_fits g None = told_fits S j g (malformed j r.next)
-    child_fits g (Some held) = back_fits S j g (deeper S (composed S F j held.pages held.table held.version) (j + 1) 0 held.regs)
+    child_fits g (Some held) = back_fits S j g (deeper S (compose S F j held.pages held.table held.version) (j + 1) 0 held.regs)
 
     through_fits : (way : Way) → StepFits n (child_through deeper S F j r way)
     through_fits (Open g) = child_fits g (block_of S g)

@@ -7,7 +7,7 @@ use Rattle.hv_store.specs.declared.access.Slot.{Slot}
 use Rattle.hv_block.specs.Block.{regs_at, fits_hart, fits_pages, held_at, block_of}
 use Rattle.hv_map.specs.Item.{Item}
 use Rattle.hv_map.specs.Apart.{table_pages}
-use Rattle.hv_map.specs.Compose.{composed}
+use Rattle.hv_map.specs.Compose.{compose}
 use Rattle.hv_map.specs.Chain.{along, child_held, child_at, child_next}
 use Rattle.hv_towers.specs.Laid.{from_base, child_base, HasPass}
 use Rattle.hv_towers.proofs.Bases.{base_slot}
@@ -24,7 +24,7 @@ pub record Floor (S : List ℕ) (j base n : ℕ) (x : Item) : Type 0 where
   pub pages : word_at S x.block 65 ≡ x.pages
   pub table : word_at S x.block 66 ≡ x.table
   pub version : word_at S x.block 67 ≡ x.version
-  pub slots : composed S (from_base base n) j x.pages x.table x.version ≡ from_base (child_base base x.pages) x.pages
+  pub slots : compose S (from_base base n) j x.pages x.table x.version ≡ from_base (child_base base x.pages) x.pages
   pub program : HasPass S base
 
 abbrev pub Floors : List ℕ → ℕ → ℕ → ℕ → List Item → Type 0

@@ -12,7 +12,7 @@ use Rattle.hv_store.specs.declared.access.Way.{Way}
 use Rattle.hv_store.specs.declared.access.Way.TheVariants.{Open, Shut}
 use Rattle.hv_store.specs.Access.{identity, open_at}
 use Rattle.hv_map.specs.Item.{Item}
-use Rattle.hv_map.specs.Compose.{Looked, Named, Stopped, composed, reading, table_of}
+use Rattle.hv_map.specs.Compose.{Looked, Named, Stopped, compose, reading, table_of}
 use Rattle.hv_map.specs.Chain.{map_along}
 use Rattle.hv_map.specs.Apart.{opened, opened_if, open_pages, table_pages, table_open, directory_of}
 use Rattle.hv_nest.specs.Bare.{alone}
@@ -101,7 +101,7 @@ module _ (P : ℕ → Type 0) where
   unfolding chain_foot
   each_chain A j base n [] laid zone = tt
   each_chain A j base n (x ∷ xs) laid zone =
-      each_append (item_foot A (from_base base n) j x) (chain_foot A (composed A (from_base base n) j x.pages x.table x.version) (j + 1) xs)
+      each_append (item_foot A (from_base base n) j x) (chain_foot A (compose A (from_base base n) j x.pages x.table x.version) (j + 1) xs)
       (each_item A j base n x xs laid.0 zone)
       (subst (λ (F : List Slot). Each P (chain_foot A F (j + 1) xs)) (sym laid.0.slots)
       (each_chain A (j + 1) (child_base base x.pages) x.pages xs laid.1 (λ g w h z. zone g w h (inr (inr (inr z))))))

@@ -7,7 +7,7 @@ use Rattle.hv_store.specs.declared.access.Way.TheVariants.{Open, Shut}
 use Rattle.hv_block.specs.Block.{Held, block_of}
 use Rattle.hv_block.proofs.Blocks.{block_sized}
 use Rattle.hv_map.specs.Item.{Item}
-use Rattle.hv_map.specs.Compose.{composed}
+use Rattle.hv_map.specs.Compose.{compose}
 use Rattle.hv_map.specs.Chain.{child_held, child_through, child_at, machines}
 use Rattle.hv_map.proofs.Assoc.{begins_with}
 
@@ -36,4 +36,4 @@ machines_few S F j [] items e = subst EachFew (same_Some [] items e) tt
 machines_few S F j (s ∷ path) items e =
     let b = begins_with S F j s path items e in
     subst EachFew b.whole
-    (child_sized S s b.head (slice_get F s) b.child, machines_few S (composed S F j b.head.pages b.head.table b.head.version) (j + 1) path b.rest b.others)
+    (child_sized S s b.head (slice_get F s) b.child, machines_few S (compose S F j b.head.pages b.head.table b.head.version) (j + 1) path b.rest b.others)

@@ -7,7 +7,7 @@ use Rattle.hv_word.specs.Storage.{page_count}
 use Rattle.hv_store.specs.declared.access.Slot.{Slot}
 use Rattle.hv_store.specs.Access.{identity, open_at}
 use Rattle.hv_map.specs.Apart.{has, are_distinct, opened_if, open_pages, table_pages, table_open, tables_of, tables_along, blocks_of, standing_on, is_apart}
-use Rattle.hv_map.specs.Compose.{composed, reading, table_of}
+use Rattle.hv_map.specs.Compose.{compose, reading, table_of}
 use Rattle.hv_map.specs.Chain.{map_along}
 use Rattle.hv_apart.proofs.Lists.{has-append}
 use Rattle.hv_towers.specs.Laid.{from_base, child_base}
@@ -196,7 +196,7 @@ unfolding tables_along tables_list items_of
 tables_are S j base n [] few all = refl
 tables_are S j base n (m ∷ ms) few all =
     let h : 2 + table_pages m + m ≤ n = all.0.size in
-    ap (λ (l : List ℕ). l ++ tables_along S (composed S (from_base base n) j m 2 0) (j + 1) (items_of (child_base base m) ms)) here
+    ap (λ (l : List ℕ). l ++ tables_along S (compose S (from_base base n) j m 2 0) (j + 1) (items_of (child_base base m) ms)) here
     ∙ ap (λ (F : List Slot). range_with_len (base + 2) (table_pages m) ++ tables_along S F (j + 1) (items_of (child_base base m) ms)) (slots S j base n m few all.0)
     ∙ ap (λ (l : List ℕ). range_with_len (base + 2) (table_pages m) ++ l) (tables_are S (j + 1) (child_base base m) m ms (omega (arith, h, few)) all.1)
   where

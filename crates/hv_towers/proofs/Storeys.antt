@@ -12,8 +12,8 @@ use Rattle.hv_store.specs.Access.{identity, open_at}
 use Rattle.hv_block.specs.Block.{regs_at, fits_hart, fits_pages, held_at, block_of}
 use Rattle.hv_map.specs.Item.{Item}
 use Rattle.hv_map.specs.Apart.{table_pages}
-use Rattle.hv_map.specs.Compose.{Named, Stopped, present, look, granted, placed, slot_of, reading, composed, composed_slot}
-use Rattle.hv_map.specs.Chain.{along, map_along, child_at, child_held, child_of, option_cons, machines, pinned, map_of}
+use Rattle.hv_map.specs.Compose.{Named, Stopped, present, look, granted, placed, slot_of, reading, compose, compose_slot}
+use Rattle.hv_map.specs.Chain.{along, map_along, child_at, child_held, child_of, option_cons, machines, pin_of, map_of}
 use Rattle.hv_map.proofs.Agree.{map_range_alike}
 use Rattle.hv_load.specs.Making.{block_word, entry_word, table_word}
 use Rattle.hv_towers.specs.Laid.{from_base, child_base, HasPass, LaidAt, LaidFrom}
@@ -97,8 +97,8 @@ module _ (S : List ℕ) (j base n m : ℕ) (few : n ≤ 16384) (storey : Storey 
       small : (p : ℕ) → p < 1048576 → (p * 4096 + 3) / 4096 % 1048576 ≡ p
       small p h = omega arith
 
-  slot_is : (i : ℕ) → i < m → composed_slot S (from_base base n) j 2 0 i ≡ open_at (child_base base m + i)
-  unfolding composed_slot entry
+  slot_is : (i : ℕ) → i < m → compose_slot S (from_base base n) j 2 0 i ≡ open_at (child_base base m + i)
+  unfolding compose_slot entry
   slot_is i lt =
       let h : 2 + table_pages m + m ≤ n = inside in
       let sum : base + (2 + table_pages m + i) ≡ child_base base m + i = omega arith in
@@ -111,9 +111,9 @@ module _ (S : List ℕ) (j base n m : ℕ) (few : n ≤ 16384) (storey : Storey 
       odd : (p : ℕ) → (p * 4096 + 3) / 2 % 2 ≡ 1
       odd p = omega arith
 
-  pub slots : composed S (from_base base n) j m 2 0 ≡ from_base (child_base base m) m
-  unfolding composed from_base
-  slots = map_range_alike (composed_slot S (from_base base n) j 2 0) (λ i. open_at (child_base base m + i)) 0 m (λ i low high. slot_is i (omega (arith, high)))
+  pub slots : compose S (from_base base n) j m 2 0 ≡ from_base (child_base base m) m
+  unfolding compose from_base
+  slots = map_range_alike (compose_slot S (from_base base n) j 2 0) (λ i. open_at (child_base base m + i)) 0 m (λ i low high. slot_is i (omega (arith, high)))
 
   -- the child's registers
   pub regs_reset : regs_at S (base + 1) ≡ reset_regs
@@ -208,7 +208,7 @@ unfolding machines items_of
 machines_are S j base n [] few all = refl
 machines_are S j base n (m ∷ ms) few all =
     let h : 2 + table_pages m + m ≤ n = all.0.size in
-    ap (λ (o : Option Item). option_and_then (λ (x : Item). option_cons x (machines S (composed S (from_base base n) j x.pages x.table x.version) (j + 1) (replicate (length ms) 1))) o) (child_is S j base n m few all.0)
+    ap (λ (o : Option Item). option_and_then (λ (x : Item). option_cons x (machines S (compose S (from_base base n) j x.pages x.table x.version) (j + 1) (replicate (length ms) 1))) o) (child_is S j base n m few all.0)
     ∙ ap (λ (F : List Slot). option_cons (item_of base m) (machines S F (j + 1) (replicate (length ms) 1))) (slots S j base n m few all.0)
     ∙ ap (option_cons (item_of base m)) (machines_are S (j + 1) (child_base base m) m ms (omega (arith, h, few)) all.1)
 
@@ -232,8 +232,8 @@ module _ (S : List ℕ) (P : ℕ) (ms : List ℕ) (is : page_count S ≡ P) (few
   bare : identity (page_count S) ≡ from_base 0 P
   bare = ap identity is ∙ base_zero P
 
-  pub pinned_are : pinned S (replicate (length ms) 1) ≡ Some (items_of 0 ms)
-  unfolding pinned
+  pub pinned_are : pin_of S (replicate (length ms) 1) ≡ Some (items_of 0 ms)
+  unfolding pin_of
   pinned_are = ap (λ (F : List Slot). machines S F 0 (replicate (length ms) 1)) bare ∙ machines_are S 0 0 P ms few all
 
   pub map_is : map_along S (items_of 0 ms) ≡ from_base (end_base 0 ms) (end_size P ms)

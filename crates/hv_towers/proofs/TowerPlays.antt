@@ -8,7 +8,7 @@ use Rattle.hv_store.specs.Access.{identity}
 use Rattle.hv_block.specs.Block.{regs_at}
 use Rattle.hv_map.specs.Item.{Item}
 use Rattle.hv_map.specs.Apart.{is_apart, is_one, blocks_of, tables_along, open_pages, table_pages}
-use Rattle.hv_map.specs.Chain.{depth_limit, machines, map_along, pinned}
+use Rattle.hv_map.specs.Chain.{depth_limit, machines, map_along, pin_of}
 use Rattle.hv_map.specs.Words.{Chained, syllables}
 use Rattle.hv_map.proofs.Words.{machines_chained}
 use Rattle.hv_nest.specs.Move.{last_of}
@@ -85,7 +85,7 @@ module _ (D N : ℕ) (S T : List ℕ) (x : Item) (xs : List Item) (laid : Laid D
   stand_alone = stands_alone S (replicate D 1) (x ∷ xs) short laid.pins laid.apart
 
   pins_from : machines S (identity (page_count S)) 0 (replicate D 1) ≡ Some (x ∷ xs)
-  unfolding pinned
+  unfolding pin_of
   pins_from = laid.pins
 
   on_path : syllables (x ∷ xs) ≡ replicate D 1
@@ -147,8 +147,8 @@ module _ (D N : ℕ) (S T : List ℕ) (x : Item) (xs : List Item) (laid : Laid D
         ];
       }
 
-none_on : (S : List ℕ) (D : ℕ) → 1 ≤ D → pinned S (replicate D 1) ≡ Some [] → ⊥
-unfolding pinned
+none_on : (S : List ℕ) (D : ℕ) → 1 ≤ D → pin_of S (replicate D 1) ≡ Some [] → ⊥
+unfolding pin_of
 none_on S D h e =
     let same : syllables [] ≡ replicate D 1 = (machines_chained S (identity (page_count S)) 0 (replicate D 1) [] e).0 in
     let size : 0 ≡ D = ap length same ∙ length-replicate {A = ℕ} D 1 in

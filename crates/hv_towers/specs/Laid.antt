@@ -8,8 +8,8 @@ use Rattle.hv_store.specs.declared.access.Slot.{Slot}
 use Rattle.hv_store.specs.Access.{open_at}
 use Rattle.hv_block.specs.Block.{regs_at}
 use Rattle.hv_map.specs.Item.{Item}
-use Rattle.hv_map.specs.Compose.{composed}
-use Rattle.hv_map.specs.Chain.{depth_limit, map_along, pinned}
+use Rattle.hv_map.specs.Compose.{compose}
+use Rattle.hv_map.specs.Chain.{depth_limit, map_along, pin_of}
 use Rattle.hv_map.specs.Apart.{is_apart, table_pages}
 use Rattle.hv_map.specs.Seen.{seen}
 
@@ -37,7 +37,7 @@ pub record LaidAt (S : List ℕ) (j base n : ℕ) (x : Item) : Type 0 where
   pub version : x.version ≡ 0
   pub some : 0 < x.pages
   pub size : 2 + table_pages x.pages + x.pages ≤ n
-  pub slots : composed S (from_base base n) j x.pages x.table x.version ≡ from_base (child_base base x.pages) x.pages
+  pub slots : compose S (from_base base n) j x.pages x.table x.version ≡ from_base (child_base base x.pages) x.pages
   pub program : HasPass S base
   pub regs : regs_at S x.block ≡ reset_regs
 
@@ -50,7 +50,7 @@ LaidFrom S j base n (x ∷ xs) = LaidAt S j base n x × LaidFrom S (j + 1) (chil
 pub record Laid (D N : ℕ) (S T : List ℕ) (items : List Item) : Type 0 where
   pub deep : 1 ≤ D
   pub short : D ≤ depth_limit
-  pub pins : pinned S (replicate D 1) ≡ Some items
+  pub pins : pin_of S (replicate D 1) ≡ Some items
   pub apart : is_apart S items ≡ true
   pub levels : LaidFrom S 0 0 (page_count S) items
   pub sees : seen S (map_along S items) ≡ T

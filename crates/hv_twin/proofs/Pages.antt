@@ -12,8 +12,8 @@ use Rattle.hv_store.proofs.Identity.{length-identity}
 use Rattle.hv_block.specs.Block.{Held, block_of}
 use Rattle.hv_block.proofs.Blocks.{block_sized}
 use Rattle.hv_map.specs.Item.{Item}
-use Rattle.hv_map.specs.Compose.{composed}
-use Rattle.hv_map.specs.Chain.{along, map_along, child_held, child_through, child_at, child_of, option_cons, machines, pinned}
+use Rattle.hv_map.specs.Compose.{compose}
+use Rattle.hv_map.specs.Chain.{along, map_along, child_held, child_through, child_at, child_of, option_cons, machines, pin_of}
 use Rattle.hv_map.proofs.Slots.{length-composed}
 
 -- a child has one, since its block is well formed
@@ -37,19 +37,19 @@ child_has_pages S F s x e = at (slice_get F s) e
 
 -- what is behind the child that x describes, in its map
 abbrev behind_child : List ℕ → List Slot → ℕ → List ℕ → Item → Option (List Item)
-behind_child S F j path x = machines S (composed S F j x.pages x.table x.version) (j + 1) path
+behind_child S F j path x = machines S (compose S F j x.pages x.table x.version) (j + 1) path
 
 abbrev last_map : List ℕ → List Slot → ℕ → Item → List Item → List Slot
-last_map S F j x xs = along S (composed S F j x.pages x.table x.version) (j + 1) xs
+last_map S F j x xs = along S (compose S F j x.pages x.table x.version) (j + 1) xs
 
 -- and so has each machine on a path behind one that has
 machines_have_pages : (path : List ℕ) (S : List ℕ) (F : List Slot) (j : ℕ) (items : List Item) → 1 ≤ length F → machines S F j path ≡ Some items → 1 ≤ length (along S F j items)
 unfolding machines along
 machines_have_pages [] S F j items some e = subst (λ xs. 1 ≤ length (along S F j xs)) (same_Some [] items e) some
 machines_have_pages (s ∷ path) S F j items some e =
-    at (λ x xs. machines_have_pages path S (composed S F j x.pages x.table x.version) (j + 1) xs) (child_of S F s) refl e
+    at (λ x xs. machines_have_pages path S (compose S F j x.pages x.table x.version) (j + 1) xs) (child_of S F s) refl e
   where
-    at : ((x : Item) (xs : List Item) → 1 ≤ length (composed S F j x.pages x.table x.version) → behind_child S F j path x ≡ Some xs → 1 ≤ length (last_map S F j x xs)) → (o : Option Item) → child_of S F s ≡ o → option_and_then (λ (x : Item). option_cons x (behind_child S F j path x)) o ≡ Some items → 1 ≤ length (along S F j items)
+    at : ((x : Item) (xs : List Item) → 1 ≤ length (compose S F j x.pages x.table x.version) → behind_child S F j path x ≡ Some xs → 1 ≤ length (last_map S F j x xs)) → (o : Option Item) → child_of S F s ≡ o → option_and_then (λ (x : Item). option_cons x (behind_child S F j path x)) o ≡ Some items → 1 ≤ length (along S F j items)
     at deeper None there h = absurd (cc)
     at deeper (Some x) there h = behind (behind_child S F j path x) refl h
       where
@@ -57,10 +57,10 @@ machines_have_pages (s ∷ path) S F j items some e =
         behind None m i = absurd (cc)
         behind (Some xs) m i =
             let pages = child_has_pages S F s x there in
-            let long : 1 ≤ length (composed S F j x.pages x.table x.version) = omega (arith, length-composed S F j x.pages x.table x.version) in
+            let long : 1 ≤ length (compose S F j x.pages x.table x.version) = omega (arith, length-composed S F j x.pages x.table x.version) in
             subst (λ ys. 1 ≤ length (along S F j ys)) (same_Some (x ∷ xs) items i) (deeper x xs long m)
 
-pub pinned_has_pages : (S path : List ℕ) (items : List Item) → 1 ≤ page_count S → pinned S path ≡ Some items → 1 ≤ length (map_along S items)
-unfolding pinned map_along
+pub pinned_has_pages : (S path : List ℕ) (items : List Item) → 1 ≤ page_count S → pin_of S path ≡ Some items → 1 ≤ length (map_along S items)
+unfolding pin_of map_along
 pinned_has_pages S path items some e =
     machines_have_pages path S (identity (page_count S)) 0 items (omega (arith, length-identity (page_count S))) e

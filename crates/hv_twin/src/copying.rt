@@ -3,7 +3,7 @@
 ghost use Rattle.std.specs.Prelude.{◌≡◌, ◌*◌, ◌+◌, ◌<◌, ◌≤◌, IfOk, Some, length, map, slice_get};
 ghost use Rattle.std.proofs.lemmas.List.Edits.{sets};
 ghost use Rattle.hv_word.specs.Storage.{page_count};
-ghost use Rattle.hv_map.specs.Chain.{map_along, pinned};
+ghost use Rattle.hv_map.specs.Chain.{map_along, pin_of};
 ghost use Rattle.hv_map.specs.Levels.{IsWithin};
 ghost use Rattle.hv_map.specs.Links.{syllable_of};
 ghost use Rattle.hv_map.specs.Seen.{seen as seen_of, words_of};
@@ -19,7 +19,7 @@ use std::sync::ledger::{Blank, Ledger};
 /// The pages of the last machine of a chain, as a storage of its own: each page is a copy of the one that the machine reads
 /// there, and zero where it can't be read. The chain is the store's, and its machine has at most 16384 pages.
 pub fn seen(alloc: Global, store: &Store, chain: &Chain) -> Result<Store, AllocError>
-    requires pinned { pinned store.now (map syllable_of chain.now) ≡ Some chain.now }
+    requires pin_of { pin_of store.now (map syllable_of chain.now) ≡ Some chain.now }
     requires pages { length (map_along store.now chain.now) ≤ 16384 }
     ensures { IfOk result (λ new. new ≡ seen_of store.now (map_along store.now chain.now)) }
 {

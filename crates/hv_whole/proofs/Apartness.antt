@@ -13,8 +13,8 @@ use Rattle.hv_store.specs.Access.{identity}
 use Rattle.hv_block.specs.Block.{Held, block_of, IsOther}
 use Rattle.hv_block.proofs.Blocks.{block_sized}
 use Rattle.hv_map.specs.Item.{Item}
-use Rattle.hv_map.specs.Compose.{Named, Stopped, look, page_named, table_of, reading, composed}
-use Rattle.hv_map.specs.Chain.{child_held, child_through, child_at, machines, map_along, pinned, depth_limit}
+use Rattle.hv_map.specs.Compose.{Named, Stopped, look, page_named, table_of, reading, compose}
+use Rattle.hv_map.specs.Chain.{child_held, child_through, child_at, machines, map_along, pin_of, depth_limit}
 use Rattle.hv_map.specs.Apart.{are_distinct, opened, open_pages, table_pages, table_open, tables_of, directory_of, tables_along, blocks_of, is_apart}
 use Rattle.hv_map.specs.Carried.{Opens}
 use Rattle.hv_map.specs.Words.{EachChain, syllables}
@@ -95,7 +95,7 @@ module _ (P : ℕ → ℕ → Type 0) where
   unfolding tables_along EachSized
   each_word S F j [] sized blocks tables = tt
   each_word S F j (x ∷ xs) sized blocks tables =
-      let more : List ℕ = tables_along S (composed S F j x.pages x.table x.version) (j + 1) xs in
+      let more : List ℕ = tables_along S (compose S F j x.pages x.table x.version) (j + 1) xs in
       let own : List ℕ = directory_of F x ++ tables_of S F j x in (
         record {
           pages = blocks.0 65 (omega arith) (omega arith);
@@ -110,7 +110,7 @@ module _ (P : ℕ → ℕ → Type 0) where
                 tables g (i % 1024) low (has_left g own more (has_right g (directory_of F x) (tables_of S F j x) (has_table S F j x i u g h t e)));
           };
         },
-        each_word S (composed S F j x.pages x.table x.version) (j + 1) xs sized.1 blocks.1 (λ g w low h. tables g w low (has_right g own more h)),
+        each_word S (compose S F j x.pages x.table x.version) (j + 1) xs sized.1 blocks.1 (λ g w low h. tables g w low (has_right g own more h)),
       )
 
 -- a child has as many pages as a block can say
@@ -134,7 +134,7 @@ machines_sized S F j [] items e = subst EachSized (same_Some [] items e) tt
 machines_sized S F j (s ∷ path) items e =
     let b = begins_with S F j s path items e in
     subst EachSized b.whole
-    (child_sized S s b.head (slice_get F s) b.child, machines_sized S (composed S F j b.head.pages b.head.table b.head.version) (j + 1) path b.rest b.others)
+    (child_sized S s b.head (slice_get F s) b.child, machines_sized S (compose S F j b.head.pages b.head.table b.head.version) (j + 1) path b.rest b.others)
 
 machines_inside : (P : ℕ) (S : List ℕ) (F : List Slot) (j : ℕ) (path : List ℕ) (items : List Item) → OpensInside P F → machines S F j path ≡ Some items → EachBlock (λ b. b < P) items
 unfolding machines
@@ -145,7 +145,7 @@ machines_inside P S F j (s ∷ path) items inside e =
     let has : HasBlock F b.head.syllable b.head.block = record { slot = f.child.slot; there = f.child.there; writes = f.child.writes } in
     subst (EachBlock (λ g. g < P)) b.whole (
       writes_inside P F b.head.syllable b.head.block inside has,
-      machines_inside P S (composed S F j b.head.pages b.head.table b.head.version) (j + 1) path b.rest (composed_inside P S F j b.head.pages b.head.table b.head.version inside) b.others,
+      machines_inside P S (compose S F j b.head.pages b.head.table b.head.version) (j + 1) path b.rest (composed_inside P S F j b.head.pages b.head.table b.head.version inside) b.others,
     )
 
 -- blocks
@@ -164,8 +164,8 @@ length-syllables [] = refl
 length-syllables (x ∷ xs) = ap suc (length-syllables xs)
 
 -- what is so of machines that stand apart
-pub alone : (S path : List ℕ) (items : List Item) → length path ≤ depth_limit → pinned S path ≡ Some items → is_apart S items ≡ true → Alone S items (map_along S items)
-unfolding pinned map_along
+pub alone : (S path : List ℕ) (items : List Item) → length path ≤ depth_limit → pin_of S path ≡ Some items → is_apart S items ≡ true → Alone S items (map_along S items)
+unfolding pin_of map_along
 alone S path items short e d =
     let I : List Slot = identity (page_count S) in
     let blocks : List ℕ = blocks_of items in

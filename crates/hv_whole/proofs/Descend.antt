@@ -11,7 +11,7 @@ use Rattle.hv_store.specs.declared.access.Way.{Way}
 use Rattle.hv_store.specs.declared.access.Way.TheVariants.{Open, Shut}
 use Rattle.hv_block.specs.Block.{regs_at}
 use Rattle.hv_map.specs.Item.{Item}
-use Rattle.hv_map.specs.Compose.{composed}
+use Rattle.hv_map.specs.Compose.{compose}
 use Rattle.hv_map.specs.Chain.{along, child_next, run_on, running}
 use Rattle.hv_map.specs.Words.{IsChild, Chained, syllables}
 use Rattle.hv_map.proofs.Words.{follows}
@@ -56,7 +56,7 @@ next_follows S F (suc s) y e = (follows S F (suc s) y e).child
 -- a running path that begins with the page of a child goes on in that child
 record Goes (n : ℕ) (S : List ℕ) (F : List Slot) (j : ℕ) (x : Item) (xs : List Item) (r : Regs) : Type 0 where
   child : child_next S F r.next ≡ Some x
-  rest : begins (syllables xs) (running n S (composed S F j x.pages x.table x.version) (j + 1) (regs_at S x.block)) ≡ true
+  rest : begins (syllables xs) (running n S (compose S F j x.pages x.table x.version) (j + 1) (regs_at S x.block)) ≡ true
 
 goes : (n : ℕ) (S : List ℕ) (F : List Slot) (j : ℕ) (x : Item) (xs : List Item) (r : Regs) → IsChild S F x → begins (syllables (x ∷ xs)) (running (suc n) S F j r) ≡ true → Goes n S F j x xs r
 unfolding running
@@ -65,11 +65,11 @@ goes n S F j x xs r child e = go (child_next S F r.next) refl e
     go : (o : Option Item) → child_next S F r.next ≡ o → begins (syllables (x ∷ xs)) (run_on (running n) S F j o) ≡ true → Goes n S F j x xs r
     go None is f = absurd (let h : false ≡ true = f in cc)
     go (Some y) is f =
-        let parts = and_parts (x.syllable == y.syllable) (begins (syllables xs) (running n S (composed S F j y.pages y.table y.version) (j + 1) (regs_at S y.block))) f in
+        let parts = and_parts (x.syllable == y.syllable) (begins (syllables xs) (running n S (compose S F j y.pages y.table y.version) (j + 1) (regs_at S y.block))) f in
         let same : y ≡ x = same_child S F x y (eqb-true x.syllable y.syllable parts.0) child (next_follows S F r.next y is) in
         record {
           child = is ∙ ap Some same;
-          rest = subst (λ (z : Item). begins (syllables xs) (running n S (composed S F j z.pages z.table z.version) (j + 1) (regs_at S z.block)) ≡ true) same parts.1;
+          rest = subst (λ (z : Item). begins (syllables xs) (running n S (compose S F j z.pages z.table z.version) (j + 1) (regs_at S z.block)) ≡ true) same parts.1;
         }
 
 -- a machine that runs a child takes control back for an interrupt
@@ -95,10 +95,10 @@ unfoldable pub at_end : ℕ → List ℕ → List Slot → ℕ → List Item →
 at_end m S F j items hart r = step_of m S (along S F j items) (deep j items) (hart_along items hart) (regs_along S items r)
 
 one_down : (n m : ℕ) (S : List ℕ) (F : List Slot) (j hart : ℕ) (r : Regs) (x : Item) (xs : List Item) → child_next S F r.next ≡ Some x
-    → LowRecall (deep (j + 1) xs) (step_of n S (composed S F j x.pages x.table x.version) (j + 1) 0 (regs_at S x.block))
-    ⊎ (step_of n S (composed S F j x.pages x.table x.version) (j + 1) 0 (regs_at S x.block) ≡ lifted S (j + 1) xs (regs_at S x.block) (at_end m S (composed S F j x.pages x.table x.version) (j + 1) xs 0 (regs_at S x.block)))
+    → LowRecall (deep (j + 1) xs) (step_of n S (compose S F j x.pages x.table x.version) (j + 1) 0 (regs_at S x.block))
+    ⊎ (step_of n S (compose S F j x.pages x.table x.version) (j + 1) 0 (regs_at S x.block) ≡ lifted S (j + 1) xs (regs_at S x.block) (at_end m S (compose S F j x.pages x.table x.version) (j + 1) xs 0 (regs_at S x.block)))
     → LowRecall (deep (j + 1) xs) (step_of (suc n) S F j hart r)
-    ⊎ (step_of (suc n) S F j hart r ≡ put_back S j r x.block (lifted S (j + 1) xs (regs_at S x.block) (at_end m S (composed S F j x.pages x.table x.version) (j + 1) xs 0 (regs_at S x.block))))
+    ⊎ (step_of (suc n) S F j hart r ≡ put_back S j r x.block (lifted S (j + 1) xs (regs_at S x.block) (at_end m S (compose S F j x.pages x.table x.version) (j + 1) xs 0 (regs_at S x.block))))
 unfolding step_of
 one_down n m S F j hart r x xs child h = by (pending_of r)
   where
@@ -106,15 +106,15 @@ one_down n m S F j hart r x xs child h = by (pending_of r)
     below k e = omega (arith, deep_is (j + 1) xs)
 
     by : (p : Option ℕ) → LowRecall (deep (j + 1) xs) (step_on (Some (step_of n)) S F j hart r p)
-        ⊎ (step_on (Some (step_of n)) S F j hart r p ≡ put_back S j r x.block (lifted S (j + 1) xs (regs_at S x.block) (at_end m S (composed S F j x.pages x.table x.version) (j + 1) xs 0 (regs_at S x.block))))
+        ⊎ (step_on (Some (step_of n)) S F j hart r p ≡ put_back S j r x.block (lifted S (j + 1) xs (regs_at S x.block) (at_end m S (compose S F j x.pages x.table x.version) (j + 1) xs 0 (regs_at S x.block))))
     by (Some p) = inl (interrupts S F j (deep (j + 1) xs) r x p (below (deep (j + 1) xs) refl) child)
     by None = at h
       where
-        at : LowRecall (deep (j + 1) xs) (step_of n S (composed S F j x.pages x.table x.version) (j + 1) 0 (regs_at S x.block))
-            ⊎ (step_of n S (composed S F j x.pages x.table x.version) (j + 1) 0 (regs_at S x.block) ≡ lifted S (j + 1) xs (regs_at S x.block) (at_end m S (composed S F j x.pages x.table x.version) (j + 1) xs 0 (regs_at S x.block)))
+        at : LowRecall (deep (j + 1) xs) (step_of n S (compose S F j x.pages x.table x.version) (j + 1) 0 (regs_at S x.block))
+            ⊎ (step_of n S (compose S F j x.pages x.table x.version) (j + 1) 0 (regs_at S x.block) ≡ lifted S (j + 1) xs (regs_at S x.block) (at_end m S (compose S F j x.pages x.table x.version) (j + 1) xs 0 (regs_at S x.block)))
             → LowRecall (deep (j + 1) xs) (step_on (Some (step_of n)) S F j hart r None)
-            ⊎ (step_on (Some (step_of n)) S F j hart r None ≡ put_back S j r x.block (lifted S (j + 1) xs (regs_at S x.block) (at_end m S (composed S F j x.pages x.table x.version) (j + 1) xs 0 (regs_at S x.block))))
-        at (inl low) = inl (subst (LowRecall (deep (j + 1) xs)) (sym (resumed_goes (step_of n) S F j hart r x child)) (put_low S j (deep (j + 1) xs) r x.block (step_of n S (composed S F j x.pages x.table x.version) (j + 1) 0 (regs_at S x.block)) low))
+            ⊎ (step_on (Some (step_of n)) S F j hart r None ≡ put_back S j r x.block (lifted S (j + 1) xs (regs_at S x.block) (at_end m S (compose S F j x.pages x.table x.version) (j + 1) xs 0 (regs_at S x.block))))
+        at (inl low) = inl (subst (LowRecall (deep (j + 1) xs)) (sym (resumed_goes (step_of n) S F j hart r x child)) (put_low S j (deep (j + 1) xs) r x.block (step_of n S (compose S F j x.pages x.table x.version) (j + 1) 0 (regs_at S x.block)) low))
         at (inr is) = inr (resumed_goes (step_of n) S F j hart r x child ∙ ap (put_back S j r x.block) is)
 
 pub descended : (m : ℕ) (S : List ℕ) (items : List Item) (F : List Slot) (j hart : ℕ) (r : Regs) → Chained S F j items
@@ -125,7 +125,7 @@ unfolding more deep lifted along at_end
 descended m S [] F j hart r chained e = inr refl
 descended m S (x ∷ xs) F j hart r chained e =
     let g = goes (more xs m) S F j x xs r chained.0 e in
-    let d = one_down (more xs m) m S F j hart r x xs g.child (descended m S xs (composed S F j x.pages x.table x.version) (j + 1) 0 (regs_at S x.block) chained.1 g.rest) in
+    let d = one_down (more xs m) m S F j hart r x xs g.child (descended m S xs (compose S F j x.pages x.table x.version) (j + 1) 0 (regs_at S x.block) chained.1 g.rest) in
     subst (λ (h : ℕ). LowRecall (deep (j + 1) xs) (step_of (suc (more xs m)) S F j hart r)
-    ⊎ (step_of (suc (more xs m)) S F j hart r ≡ put_back S j r x.block (lifted S (j + 1) xs (regs_at S x.block) (step_of m S (along S (composed S F j x.pages x.table x.version) (j + 1) xs) (deep (j + 1) xs) h (regs_along S xs (regs_at S x.block))))))
+    ⊎ (step_of (suc (more xs m)) S F j hart r ≡ put_back S j r x.block (lifted S (j + 1) xs (regs_at S x.block) (step_of m S (along S (compose S F j x.pages x.table x.version) (j + 1) xs) (deep (j + 1) xs) h (regs_along S xs (regs_at S x.block))))))
     (hart_same xs) d

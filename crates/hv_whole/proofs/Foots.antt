@@ -9,7 +9,7 @@ use Rattle.hv_store.specs.declared.access.Slot.{Slot}
 use Rattle.hv_store.specs.Access.{identity}
 use Rattle.hv_block.specs.Block.{IsOther}
 use Rattle.hv_map.specs.Item.{Item}
-use Rattle.hv_map.specs.Compose.{composed, reading, table_of}
+use Rattle.hv_map.specs.Compose.{compose, reading, table_of}
 use Rattle.hv_map.specs.Chain.{map_along}
 use Rattle.hv_map.specs.Apart.{table_pages, table_open, directory_of, open_pages}
 use Rattle.hv_map.specs.Carried.{Opens}
@@ -25,7 +25,7 @@ pub chain_has : (S : List ℕ) (F : List Slot) (j : ℕ) (xs : List Item) → Ea
 unfolding chain_foot
 chain_has S F j [] = tt
 chain_has S F j (x ∷ xs) =
-    let G : List Slot = composed S F j x.pages x.table x.version in
+    let G : List Slot = compose S F j x.pages x.table x.version in
     let block : List ℕ = places x.block (65 ∷ 66 ∷ 67 ∷ []) in
     let directory : List ℕ = flat_map (λ d. places d (range_with_len 0 (table_pages x.pages))) (directory_of F x) in
     let tables : List ℕ = flat_map (λ i. map (λ g. 1024 * g + i % 1024) (table_open F (table_of S (reading F) j x.table x.version i))) (range_with_len 0 x.pages) in
@@ -72,7 +72,7 @@ module _ (P Q R : ℕ → ℕ → Type 0) (step : (g w : ℕ) → P g w → Q g 
         table = λ i u g h e r. step g (i % 1024) (p.0.words.table i u g h e r) (q.0.words.table i u g h e r);
       };
     },
-    each_both S (composed S F j x.pages x.table x.version) (j + 1) xs p.1 q.1,
+    each_both S (compose S F j x.pages x.table x.version) (j + 1) xs p.1 q.1,
   )
 
 -- the last block is one of the blocks

@@ -15,7 +15,7 @@ use Rattle.hv_store.specs.declared.access.Refusal.{Refusal}
 use Rattle.hv_store.specs.declared.access.Slot.{Slot}
 use Rattle.hv_store.specs.declared.access.Way.{Way}
 use Rattle.hv_store.specs.declared.access.Way.TheVariants.{Open, Shut}
-use Rattle.hv_store.specs.Access.{identity, got, put_at, put_in, write_through, clear_through, cleared_at, cleared}
+use Rattle.hv_store.specs.Access.{identity, get, put_at, set, write_through, clear_through, cleared_at, cleared}
 use Rattle.hv_sv32.specs.Stop.{Walked, Found, TrapWith, RefusedBy}
 use Rattle.hv_sv32.specs.Walk.{walk_of}
 use Rattle.hv_exec.specs.Answer.{Answer, Next, Trap, Load, Store, Enter}
@@ -25,7 +25,7 @@ use Rattle.hv_exec.specs.Act.{Acted, Done, Refused, trapped, loaded, load_at, st
 use Rattle.hv_block.specs.Block.{Held, block_of, with_fault, access_word}
 use Rattle.hv_block.proofs.Words.{length-put_regs}
 use Rattle.hv_map.specs.Chain.{depth_limit}
-use Rattle.hv_map.specs.Compose.{composed}
+use Rattle.hv_map.specs.Compose.{compose}
 use Rattle.hv_nest.specs.Step.{Stepped, Worked, Recalled, Faulted, Barred, Machine, idle, interrupted, worked, told, put_back, malformed, child_step, child_through, child_at, descended, step_on, step_of, host_step_of}
 use Rattle.hv_nest.specs.State.{State}
 use Rattle.hv_nest.specs.Move.{Move, StepOf, LinesOf, moved_by, moved_at, lined_at, state_after}
@@ -99,13 +99,13 @@ module _ (S : List ℕ) (F : List Slot) (hart : ℕ) (r : Regs) where
   carried_long (Trap cause tval) = refl
   carried_long (Load address width signed rd) =
       found_long S (load_at S F r address width signed rd)
-      (λ page offset. read_long S (loaded S r address width signed rd offset) refl (λ v. refl) (λ e. tt) (got S F page (offset / 4) Read))
+      (λ page offset. read_long S (loaded S r address width signed rd offset) refl (λ v. refl) (λ e. tt) (get S F page (offset / 4) Read))
       (λ cause tval. refl)
       (λ e. tt)
       (walk_of S F r address Read)
   carried_long (Store address width v) =
       found_long S (store_at S F r address width v)
-      (λ page offset. stored_long S r address (put_in S F page (offset / 4) (lane_at width offset) v) (put_long S (slice_get F page) (offset / 4) (lane_at width offset) v))
+      (λ page offset. stored_long S r address (set S F page (offset / 4) (lane_at width offset) v) (put_long S (slice_get F page) (offset / 4) (lane_at width offset) v))
       (λ cause tval. refl)
       (λ e. tt)
       (walk_of S F r address Write)
@@ -123,7 +123,7 @@ module _ (S : List ℕ) (F : List Slot) (hart : ℕ) (r : Regs) where
 
   fetch_long : (found : Walked) → ActsLong S (fetch_at S F hart r found)
   unfolding fetch_at
-  fetch_long (Found page offset) = fetched_long (got S F page (offset / 4) Fetch)
+  fetch_long (Found page offset) = fetched_long (get S F page (offset / 4) Fetch)
   fetch_long (TrapWith cause tval) = refl
   fetch_long (RefusedBy e) = tt
 
@@ -177,8 +177,8 @@ module _ (deeper : Machine) (long : IsLong deeper) (S : List ℕ) (F : List Slot
   child_long : (g : ℕ) (o : Option Held) → StepsLong S (child_step deeper S F j r g o)
   child_long g None = told_long S j r g (malformed j r.next)
   child_long g (Some held) =
-      back_long S j r g (deeper S (composed S F j held.pages held.table held.version) (j + 1) 0 held.regs)
-      (long S (composed S F j held.pages held.table held.version) (j + 1) 0 held.regs)
+      back_long S j r g (deeper S (compose S F j held.pages held.table held.version) (j + 1) 0 held.regs)
+      (long S (compose S F j held.pages held.table held.version) (j + 1) 0 held.regs)
 
   through_long : (way : Way) → StepsLong S (child_through deeper S F j r way)
   unfolding StepsLong

@@ -9,7 +9,7 @@ use Rattle.hv_store.specs.declared.access.Slot.{Slot}
 use Rattle.hv_store.specs.Access.{identity, open_at}
 use Rattle.hv_store.proofs.Identity.{length-identity, slice_get-identity}
 use Rattle.hv_map.specs.Apart.{has, are_distinct, open_pages, tables_along, is_apart}
-use Rattle.hv_map.specs.Chain.{along, machines, map_along, pinned}
+use Rattle.hv_map.specs.Chain.{along, machines, map_along, pin_of}
 use Rattle.hv_map.specs.Seen.{seen}
 use Rattle.hv_map.proofs.Views.{length-seen, word_at-seen}
 use Rattle.hv_nest.specs.State.{State}
@@ -70,7 +70,7 @@ run_long st (move ∷ moves) = run_long (state_after st move) moves ∙ (move_lo
 
 pub root_run : WholeRunLaw → (start : State) (moves : List Move) (t : Tally) → 0 < length start.harts → AreMasked moves → length start.storage ≡ 1024 * page_count start.storage → t ≡ tally_of 0 [] [] (foot start.storage []) start moves no_tally → t.touched ≡ false
     → bare_of start.storage (regs_of 0 start) t.changes t.count ≡ alone (last_of start moves).storage (regs_of 0 (last_of start moves))
-unfolding pinned machines map_along along
+unfolding pin_of machines map_along along
 root_run law start moves t there masked whole is untouched =
     λ i. record { storage = storage i; harts = alike.regs i }
   where

@@ -8,7 +8,7 @@ use Rattle.hv_store.specs.declared.access.Way.TheVariants.{Open}
 use Rattle.hv_store.specs.Access.{identity, open_at}
 use Rattle.hv_store.proofs.Identity.{length-identity, slice_get-identity}
 use Rattle.hv_map.specs.Item.{Item}
-use Rattle.hv_map.specs.Compose.{composed, reading}
+use Rattle.hv_map.specs.Compose.{compose, reading}
 use Rattle.hv_map.specs.Chain.{along, map_along}
 use Rattle.hv_map.specs.Carried.{ShutBelow}
 use Rattle.hv_map.specs.Seen.{seen}
@@ -38,9 +38,9 @@ along_inside : (P : ℕ) (S : List ℕ) (F : List Slot) (j : ℕ) (xs : List Ite
 unfolding along
 along_inside P S F j [] inside = inside
 along_inside P S F j (x ∷ xs) inside =
-    along_inside P S (composed S F j x.pages x.table x.version) (j + 1) xs
+    along_inside P S (compose S F j x.pages x.table x.version) (j + 1) xs
     (λ y g e.
-    let r = reading_slot (composed S F j x.pages x.table x.version) y (Open g) e in
+    let r = reading_slot (compose S F j x.pages x.table x.version) y (Open g) e in
     let o = composed_opens F j S x.pages x.table x.version y r.0 Read g r.1 r.2 in
     inside o.0 g (reading_at F o.0 g o.1 o.2 o.3))
 

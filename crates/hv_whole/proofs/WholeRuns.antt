@@ -5,7 +5,7 @@ use Rattle.hv_store.specs.declared.access.Slot.{Slot}
 use Rattle.hv_store.specs.Access.{identity}
 use Rattle.hv_cpu.specs.Regs.{Regs}
 use Rattle.hv_map.specs.Item.{Item}
-use Rattle.hv_map.specs.Chain.{map_along, pinned}
+use Rattle.hv_map.specs.Chain.{map_along, pin_of}
 use Rattle.hv_map.specs.Seen.{seen}
 use Rattle.hv_map.specs.Words.{syllables}
 use Rattle.hv_map.proofs.Words.{machines_chained}
@@ -23,8 +23,8 @@ use Rattle.hv_whole.proofs.Starts.{start_linked}
 use Rattle.hv_whole.proofs.Tallies.{told_moves, run_keeps}
 
 -- the path of these machines
-pub on_path : (S path : List ℕ) (items : List Item) → pinned S path ≡ Some items → syllables items ≡ path
-unfolding pinned
+pub on_path : (S path : List ℕ) (items : List Item) → pin_of S path ≡ Some items → syllables items ≡ path
+unfolding pin_of
 on_path S path items e = (machines_chained S (identity (page_count S)) 0 path items e).0
 
 pub root_path : (path : List ℕ) (items : List Item) → syllables items ≡ path → items ≡ [] → path ≡ []

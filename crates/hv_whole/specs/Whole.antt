@@ -7,7 +7,7 @@ use Rattle.hv_cpu.specs.Lines.{lines_mask}
 use Rattle.hv_store.specs.declared.access.Slot.{Slot}
 use Rattle.hv_block.specs.Block.{regs_at}
 use Rattle.hv_map.specs.Item.{Item}
-use Rattle.hv_map.specs.Chain.{depth_limit, map_along, pinned}
+use Rattle.hv_map.specs.Chain.{depth_limit, map_along, pin_of}
 use Rattle.hv_map.specs.Apart.{is_apart}
 use Rattle.hv_map.specs.Carried.{Agree}
 use Rattle.hv_map.specs.Seen.{seen}
@@ -58,7 +58,7 @@ WholeRunLaw =
     → (path ≡ [] → h ≡ 0)
     → AreMasked moves
     → length path ≤ depth_limit
-    → pinned start.storage path ≡ Some items
+    → pin_of start.storage path ≡ Some items
     → is_apart start.storage items ≡ true
     → t ≡ tally_of h path items (foot start.storage items) start moves no_tally
     → t.touched ≡ false

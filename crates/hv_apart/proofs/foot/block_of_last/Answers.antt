@@ -17,5 +17,5 @@ returns-clause-block c =
 pub returns-clause-bound : goal.returns-clause-bound
 returns-clause-bound c =
     let x = item_there c.args.chain.now c.in_ok-last.last c.item.result c.item.ensures in
-    let fits = pinned_fits c.args.store.now c.args.chain.now c.in_ok-last.last x.0 c.requires.pinned x.1 in
+    let fits = pinned_fits c.args.store.now c.args.chain.now c.in_ok-last.last x.0 c.requires.pin_of x.1 in
     subst (λ (i : ChainItem). i.block < page_count c.args.store.now) x.2 fits.block

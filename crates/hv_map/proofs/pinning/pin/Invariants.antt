@@ -1,10 +1,10 @@
 use Rattle.std.proofs.Common.{◌≡◌, length, drop}
-use Rattle.hv_map.specs.Chain.{pinned}
+use Rattle.hv_map.specs.Chain.{pin_of}
 use Rattle.hv_map.proofs.Pins.{rest_of}
 use Rattle.hv_map.proofs.pinning.pin.Given as goal
 
 abbrev pub invariant-loop-syllable : goal.invariant-loop-syllable
 invariant-loop-syllable l = record {
   level : length l.chain ≡ l.syllable-index;
-  rest : rest_of l.store l.chain (drop l.syllable-index l.syllable-items) ≡ pinned l.store l.fn.path;
+  rest : rest_of l.store l.chain (drop l.syllable-index l.syllable-items) ≡ pin_of l.store l.fn.path;
 }

@@ -1,7 +1,8 @@
 -- Lines put into mip leave the rest of it.
 use Rattle.std.proofs.Common.{◌≡◌, ℕ, ◌+◌, refl, sym, ap, ◌∙◌, arith, bit_and, bit_or}
 use Rattle.hv_cpu.specs.Masks.{interrupt_mask}
-use Rattle.hv_cpu.specs.Lines.{lines, relined, lines_mask}
+use Rattle.hv_cpu.specs.Lines.{lines, relined}
+use Rattle.hv_limits.specs.Limits.{lines_mask}
 use Rattle.hv_cpu.proofs.Masks.{and_assoc, parts, apart_sum, or_inside, and_within}
 
 -- the bits of mip that stay are those of S

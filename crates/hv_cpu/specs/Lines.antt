@@ -2,11 +2,8 @@
 -- (Privileged Architecture, section 3.1.9: these bits of mip can't be written by instructions.)
 use Rattle.std.specs.Prelude.{ℕ, ◌+◌, ◌-◌}
 use Rattle.std.specs.Int.RustNames.{bit_and}
+use Rattle.hv_limits.specs.Limits.{lines_mask}
 use Rattle.hv_cpu.specs.Regs.{Regs}
-
--- MSI 3, MTI 7 and MEI 11
-abbrev pub lines_mask : ℕ
-lines_mask = 0x888
 
 -- the lines among the bits of w, and w without them
 abbrev pub lines : ℕ → ℕ

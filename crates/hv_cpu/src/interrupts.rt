@@ -2,13 +2,12 @@
 
 ghost use Rattle.std.specs.Prelude.{⊤, ◌≡◌, [], ◌∷◌, codes};
 ghost use Rattle.std.specs.Int.RustNames.{bit_and};
-ghost use Rattle.hv_cpu.specs.Lines.{lines_mask, lined_of};
+ghost use Rattle.hv_cpu.specs.Lines.{lined_of};
+ghost use Rattle.hv_limits.specs.Limits.{lines_mask};
 
 use crate::Cpu;
 use bitflags::{Flag, Flags, bitflag_items};
-
-/// The bits of mip that come from outside: MSI, MTI and MEI.
-pub const LINES_MASK: u32 = 0x888;
+use hv_limits::LINES;
 
 /// A set of interrupts, as it stands in mip, mie and mideleg.
 #[derive(Clone, Copy, PartialEq, Eq, Debug)]
@@ -54,6 +53,6 @@ impl Cpu {
         requires { bit_and mask lines_mask ≡ mask }
         ensures { self.new ≡ lined_of self.old mask }
     {
-        self.mip = (self.mip & !LINES_MASK) | mask;
+        self.mip = (self.mip & !LINES) | mask;
     }
 }

@@ -7,7 +7,7 @@ ghost use Rattle.hv_cpu.specs.Regs.{reset_regs, reg, with_reg, spelled};
 
 mod interrupts;
 
-pub use interrupts::{Interrupts, LINES_MASK};
+pub use interrupts::Interrupts;
 use std::marker::Model;
 
 /// The bits of mstatus that can be set.

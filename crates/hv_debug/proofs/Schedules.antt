@@ -4,7 +4,7 @@ use Rattle.std.specs.Prelude.{All, bit_and}
 use Rattle.std.proofs.lemmas.List.{at_drop_more, length-append, length-replicate}
 use Rattle.std.proofs.lemmas.List.Elements.{All-append, All-cons, All-replicate}
 use Rattle.std.proofs.lemmas.List.Sums.{sum_by-cons}
-use Rattle.hv_cpu.specs.Lines.{lines_mask}
+use Rattle.hv_limits.specs.Limits.{lines_mask}
 use Rattle.hv_irq.specs.Events.{hart_of, mask_of, steps_of, total_of}
 use Rattle.hv_irq.specs.declared.Event.{Event}
 use Rattle.hv_irq.specs.declared.Event.TheVariants.{Turn, Lines}

@@ -5,7 +5,8 @@ use Rattle.std.specs.List.{range_with_len}
 use Rattle.std.proofs.lemmas.Bool.{le-ltb, lt-leb, lt-ltb}
 use Rattle.hv_store.specs.declared.access.Slot.{Slot}
 use Rattle.hv_map.specs.Apart.{table_pages}
-use Rattle.hv_map.specs.Chain.{depth_limit, map_of}
+use Rattle.hv_map.specs.Chain.{map_of}
+use Rattle.hv_limits.specs.Limits.{depth_limit}
 use Rattle.hv_load.specs.declared.ends.BuildKind.{BuildKind}
 use Rattle.hv_load.specs.declared.ends.BuildKind.TheVariants as kind
 use Rattle.hv_load.specs.Building.{◌>>=◌, Building, Known, known, named}

@@ -6,7 +6,7 @@ use Rattle.std.specs.Result.{IsErrAnd}
 use Rattle.std.proofs.KnownBytes.{Appends-trans, Consumes-trans}
 use Rattle.std.proofs.lemmas.Grind.{common_steps}
 use Rattle.hv_io.specs.Whole.{IsCountAt, Gives}
-use Rattle.hv_io.specs.declared.TheConstants.{INPUT_LIMIT}
+use Rattle.hv_limits.specs.Limits.{input_limit}
 use Rattle.hv_io.specs.declared.whole.ReadEnd.{ReadEnd}
 use Rattle.hv_io.specs.declared.whole.ReadEnd.TheVariants.{Memory}
 
@@ -27,7 +27,7 @@ Appends-more a b c xs done more before now =
     subst (Appends a c) same (Appends-trans a b c _ _ before now)
 
 -- where memory is wanting, at most the limit was given
-pub IsCountAt-memory : {T : Type 0} (r : Result T ReadEnd) (count : ℕ) → IsErrAnd r (λ e. e ≡ Memory) → count ≤ INPUT_LIMIT → IsCountAt r count
+pub IsCountAt-memory : {T : Type 0} (r : Result T ReadEnd) (count : ℕ) → IsErrAnd r (λ e. e ≡ Memory) → count ≤ input_limit → IsCountAt r count
 IsCountAt-memory (Ok x) count h le = absurd h
 IsCountAt-memory {T} (Err e) count h le = let P : ReadEnd → Type 0 = λ end. IsCountAt {T = T} (Err end) count in subst P (sym h) le
 

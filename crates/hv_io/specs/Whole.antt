@@ -2,22 +2,22 @@
 use Rattle.std.specs.Prelude.{◌≡◌, ℕ, ◌+◌, ◌<◌, ◌≤◌, List, [], length, take, ⊤, Option, None, Some, Result, Ok, Err}
 use Rattle.std.specs.Io.KnownBytes.{Appends, Consumes}
 use Rattle.hv_io.specs.Faults.{Making}
-use Rattle.hv_io.specs.declared.TheConstants.{INPUT_LIMIT}
+use Rattle.hv_limits.specs.Limits.{input_limit}
 use Rattle.hv_io.specs.declared.whole.ReadEnd.{ReadEnd}
 use Rattle.hv_io.specs.declared.whole.ReadEnd.TheVariants.{ReadFault, TooLong, Memory}
 
 -- when reading ends so, where `fault` says that the count rose, and `long` that the source had more than the limit
 abbrev pub IsDue : ReadEnd → Type 0 → Type 0 → Type 0
 IsDue ReadFault fault long = fault
-IsDue (TooLong limit) fault long = (limit ≡ INPUT_LIMIT) × long
+IsDue (TooLong limit) fault long = (limit ≡ input_limit) × long
 IsDue Memory fault long = ⊤
 
 -- how many bytes were given where reading answers this: one more than the limit exactly where it was too long
 abbrev pub IsCountAt : {T : Type 0} → Result T ReadEnd → ℕ → Type 0
-IsCountAt (Ok bytes) count = count ≤ INPUT_LIMIT
-IsCountAt (Err ReadFault) count = count ≤ INPUT_LIMIT
-IsCountAt (Err (TooLong limit)) count = count ≡ INPUT_LIMIT + 1
-IsCountAt (Err Memory) count = count ≤ INPUT_LIMIT
+IsCountAt (Ok bytes) count = count ≤ input_limit
+IsCountAt (Err ReadFault) count = count ≤ input_limit
+IsCountAt (Err (TooLong limit)) count = count ≡ input_limit + 1
+IsCountAt (Err Memory) count = count ≤ input_limit
 
 -- the source gave some bytes, whose number is such
 abbrev pub Gives : Option (List ℕ) → Option (List ℕ) → (ℕ → Type 0) → Type 0

@@ -14,9 +14,6 @@ pub use memory::{HonestSource, MemSink, MemSource};
 pub use standard::{StdSink, StdSource};
 pub use whole::{ReadEnd, WriteFault, read_all, write_all};
 
-/// The most bytes that one input has.
-pub const INPUT_LIMIT: u32 = 1_048_576;
-
 /// A call that took or gave nothing, and was counted as a fault.
 #[derive(Clone, Copy, Debug, PartialEq, Eq)]
 pub struct Failed;

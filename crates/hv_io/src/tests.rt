@@ -6,7 +6,7 @@ use std::test::Fail;
 
 /// So many bytes more than an input may have.
 fn past_limit(more: u8) -> usize {
-    INPUT_LIMIT as usize + usize::from(more)
+    INPUT_BYTES as usize + usize::from(more)
 }
 
 /// The calls to fail at.

@@ -6,7 +6,8 @@ ghost use Rattle.hv_io.specs.Faults.{Rose, HasCause};
 ghost use Rattle.hv_io.specs.Whole.{IsDue, IsCountAt, Gives, TakesAtMost, AppendsFront, LacksRoom};
 ghost use Rattle.hv_io.specs.declared.whole.ReadEnd.TheVariants.{ReadFault, Memory};
 
-use super::{Failed, INPUT_LIMIT, Sink, Source};
+use super::{Failed, Sink, Source};
+use hv_limits::INPUT_BYTES;
 use std::alloc::{AllocError, Global};
 
 /// How reading ends where it doesn't reach the end of input.
@@ -49,32 +50,32 @@ impl From<Failed> for WriteFault {
 /// The most bytes that one call of the source is asked for.
 const TURN: usize = 4096;
 
-/// All bytes of the source to its end, at most `INPUT_LIMIT`.
+/// All bytes of the source to its end, at most `INPUT_BYTES`.
 pub fn read_all<S: Source>(alloc: Global, source: &mut S) -> Result<Vec<u8>, ReadEnd>
     ensures all { IfOk result (λ bytes. Consumes (S.left source.old) (S.left source.new) bytes.items) }
     ensures whole { IfOk result (λ bytes. IfSome (S.left source.old) (λ left. bytes.items ≡ left)) }
     ensures end { OnOk result (IsAtEnd (S.left source.new)) }
-    ensures short { IfOk result (λ bytes. length bytes.items ≤ INPUT_LIMIT) }
+    ensures short { IfOk result (λ bytes. length bytes.items ≤ input_limit) }
 
     // A fault only where the count rose, and too long only where more was there.
     ensures due { IfErr result (λ end. IsDue end (Rose (S.faults source.old) (S.faults source.new))
-        (IfSome (S.left source.old) (λ left. INPUT_LIMIT < length left))) }
+        (IfSome (S.left source.old) (λ left. input_limit < length left))) }
     ensures given { Gives (S.left source.old) (S.left source.new) (IsCountAt result) }
-    ensures taken { TakesAtMost (INPUT_LIMIT + 1) (S.left source.old) (S.left source.new) }
+    ensures taken { TakesAtMost (input_limit + 1) (S.left source.old) (S.left source.new) }
     ensures counts { S.faults source.old ≤ S.faults source.new }
     ensures same { S.made source.new ≡ S.made source.old }
 {
     let mut bytes = Vec::new(alloc);
     let mut buffer = [0; TURN];
     loop {
-        let room = INPUT_LIMIT as usize + 1 - bytes.len();
+        let room = INPUT_BYTES as usize + 1 - bytes.len();
         let want = room.min(TURN);
         let count = source.take(&mut buffer[..want])?;
         if count == 0 {
             return Ok(bytes);
         }
         if count == room {
-            return Err(ReadEnd::TooLong { limit: INPUT_LIMIT });
+            return Err(ReadEnd::TooLong { limit: INPUT_BYTES });
         }
         bytes.extend_from_slice(&buffer[..count])?;
     }

@@ -1,6 +1,6 @@
 -- Events of a schedule, and what a recording of them keeps.
 use Rattle.std.specs.Prelude.{◌≡◌, ℕ, Bool, not, ◌==◌, ◌+◌, ◌<◌, ◌≤◌, nat_lt, nat_le, bit_and, List, length, sum_by, All, Option, None, Some, if◌then◌else◌}
-use Rattle.hv_irq.specs.declared.TheConstants.{HARTS, LINES, STEPS, EVENTS}
+use Rattle.hv_limits.specs.Limits.{harts_limit, lines_mask, steps_limit, events_limit}
 use Rattle.hv_irq.specs.declared.Event.{Event}
 use Rattle.hv_irq.specs.declared.Event.TheVariants.{Turn, Lines}
 use Rattle.hv_irq.specs.declared.PushEnd.{PushEnd}
@@ -23,7 +23,7 @@ mask_of (Lines hart mask) = mask
 
 -- the lines from outside alone: the software, timer and external interrupts of M, bits 3, 7 and 11 of mip
 abbrev pub is_line_mask : ℕ → Bool
-is_line_mask mask = bit_and mask LINES == mask
+is_line_mask mask = bit_and mask lines_mask == mask
 
 -- the steps of all events together
 abbrev pub total_of : List Event → ℕ
@@ -32,15 +32,15 @@ total_of events = sum_by steps_of events
 -- why an event can't follow these events: the first of the four rules that it breaks
 abbrev pub refusal_of : List Event → Event → Option PushEnd
 refusal_of events event =
-    if nat_le HARTS (hart_of event) then Some Hart
+    if nat_le harts_limit (hart_of event) then Some Hart
     else if not (is_line_mask (mask_of event)) then Some Mask
-    else if nat_lt STEPS (total_of events + steps_of event) then Some Steps
-    else if nat_le EVENTS (length events) then Some Many
+    else if nat_lt steps_limit (total_of events + steps_of event) then Some Steps
+    else if nat_le events_limit (length events) then Some Many
     else None
 
 -- the events keep the four rules
 pub record IsSchedule (events : List Event) : Type 0 where
-  pub harts : All (λ event. hart_of event < HARTS) events
-  pub masks : All (λ event. bit_and (mask_of event) LINES ≡ mask_of event) events
-  pub steps : total_of events ≤ STEPS
-  pub many : length events ≤ EVENTS
+  pub harts : All (λ event. hart_of event < harts_limit) events
+  pub masks : All (λ event. bit_and (mask_of event) lines_mask ≡ mask_of event) events
+  pub steps : total_of events ≤ steps_limit
+  pub many : length events ≤ events_limit

@@ -3,21 +3,9 @@
 
 ghost use Rattle.std.specs.Prelude.{◌≡◌, ◌≤◌, [], ◌∷◌, ◌++◌, OnOk, OnErr, MatchOption, IsOkUnless};
 
+use hv_limits::{EVENTS, HARTS, LINES, STEPS};
 use std::alloc::{AllocFailed, Global};
 use std::marker::Model;
-
-/// How many harts a schedule may name.
-pub const HARTS: u32 = 4;
-
-/// The interrupt lines from outside: bits 3, 7 and 11 of mip (Privileged Architecture 20211203,
-/// section 3.1.9).
-pub const LINES: u32 = 0x888;
-
-/// The most steps that the events of one schedule take together.
-pub const STEPS: u64 = 1_000_000_000;
-
-/// The most events of one schedule.
-pub const EVENTS: usize = 65_536;
 
 /// One event of a schedule.
 #[derive(Clone, Copy, Debug, PartialEq, Eq)]
@@ -105,6 +93,7 @@ impl Model for Recording {
 
 impl Recording {
     ghost use Rattle.hv_irq.specs.Events.{total_of, refusal_of, IsSchedule};
+    ghost use Rattle.hv_limits.specs.Limits.{steps_limit};
 
     /// A recording of no events.
     pub fn new(alloc: Global) -> Recording
@@ -124,7 +113,7 @@ impl Recording {
         ensures refused { MatchOption (refusal_of self.old event)
             (IsOkUnless result PushEnd.Memory) (λ end. result ≡ Err end) }
     {
-        if event.hart() >= HARTS {
+        if event.hart() as usize >= HARTS {
             return Err(PushEnd::Hart);
         }
         if event.mask() & LINES != event.mask() {
@@ -153,7 +142,7 @@ impl Recording {
     /// The steps that all turns take together.
     pub fn total(&self) -> u64
         ensures total { result ≡ total_of self.now }
-        ensures bound { result ≤ STEPS }
+        ensures bound { result ≤ steps_limit }
     {
         self.total
     }

@@ -8,8 +8,8 @@ ghost use Rattle.hv_job.specs.Texts.{texts};
 use crate::asked::{NUMBERS, Numbers};
 use crate::ends::JobKind;
 use crate::name::Name;
-use hv_irq::LINES;
 use hv_lex::read_number;
+use hv_limits::LINES;
 use hv_samples::Sample;
 
 /// The last page that a machine may have.

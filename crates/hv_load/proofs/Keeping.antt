@@ -14,7 +14,8 @@ use Rattle.hv_job.specs.declared.job.Job.{Job}
 use Rattle.hv_job.specs.declared.job.Directive.{Directive}
 use Rattle.hv_job.specs.declared.job.Directive.TheVariants as directive
 use Rattle.hv_job.specs.declared.job.Placed.{Placed}
-use Rattle.hv_map.specs.Chain.{depth_limit, map_along, map_of, pin_of}
+use Rattle.hv_map.specs.Chain.{map_along, map_of, pin_of}
+use Rattle.hv_limits.specs.Limits.{depth_limit}
 use Rattle.hv_map.specs.Item.{Item}
 use Rattle.hv_store.specs.Zeros.{zeros}
 use Rattle.std.specs.Option.{option_map}

@@ -4,7 +4,8 @@ use Rattle.hv_asm.specs.declared.Image.{Image}
 use Rattle.hv_cpu.specs.Regs.{Regs, reset_regs}
 use Rattle.hv_store.specs.declared.access.Slot.{Slot}
 use Rattle.hv_map.specs.Apart.{table_pages}
-use Rattle.hv_map.specs.Chain.{depth_limit, map_of}
+use Rattle.hv_map.specs.Chain.{map_of}
+use Rattle.hv_limits.specs.Limits.{depth_limit}
 use Rattle.hv_load.specs.declared.ends.BuildKind.{BuildKind}
 use Rattle.hv_load.specs.declared.ends.BuildKind.TheVariants as kind
 use Rattle.hv_load.specs.declared.parts.Mark.TheVariants as mark

@@ -2,7 +2,7 @@
 
 ghost use Rattle.std.specs.Prelude.{◌≡◌, ◌+◌, ◌<◌, ◌≤◌, ◌++◌, ◌∷◌, [], IfOk, OnOk, length};
 ghost use Rattle.hv_irq.specs.Events.{total_of};
-ghost use Rattle.hv_irq.specs.declared.TheConstants.{EVENTS, STEPS};
+ghost use Rattle.hv_limits.specs.Limits.{events_limit, steps_limit};
 ghost use Rattle.hv_isa.specs.Table.{Fits, row_of};
 ghost use Rattle.hv_job.specs.IsJob.{IsJob};
 ghost use Rattle.hv_load.specs.Generator.{addition as addition_of, gen_job_of, jump_back as jump_back_of, kernel_of, lines_of, next as next_of, register as register_of, schedule_of};
@@ -134,8 +134,8 @@ fn schedule(alloc: Global, depth: u32) -> Result<Recording, AllocError>
 
 // Appends a turn of hart 0 to a recording that has room for it.
 fn push_turn(recording: &mut Recording, count: u32) -> Result<(), AllocError>
-    requires steps { total_of recording.old + count ≤ STEPS }
-    requires many { length recording.old < EVENTS }
+    requires steps { total_of recording.old + count ≤ steps_limit }
+    requires many { length recording.old < events_limit }
     ensures { OnOk result (recording.new ≡ recording.old ++ Event.Turn 0 count ∷ []) }
 {
     match recording.push(Event::Turn { hart: 0, count }) {
@@ -147,7 +147,7 @@ fn push_turn(recording: &mut Recording, count: u32) -> Result<(), AllocError>
 
 // The directives: the tower, the kernel, the turns and the watch.
 fn lines(alloc: Global, depth: u32, words: Words, turns: u32) -> Result<Vec<Placed>, AllocError>
-    requires { turns ≤ EVENTS }
+    requires { turns ≤ events_limit }
     ensures { IfOk result (λ lines. lines.items ≡ lines_of depth words turns) }
 {
     let mut lines = Vec::new(alloc);

@@ -3,7 +3,7 @@
 ghost use Rattle.std.specs.Prelude.{◌≡◌, ◌≤◌, IfOk, length, take, ◌-◌, ◌++◌, ◌∷◌, []};
 ghost use Rattle.hv_load.specs.Building.{known as known_of, known_inside as known_inside_of, named as named_in};
 ghost use Rattle.hv_load.specs.Pages.{outer as outer_of};
-ghost use Rattle.hv_map.specs.Chain.{depth_limit};
+ghost use Rattle.hv_limits.specs.Limits.{depth_limit};
 ghost use Rattle.std.specs.Prelude.{is_some};
 
 use crate::ends::BuildKind;

@@ -8,7 +8,8 @@ use Rattle.hv_store.specs.Access.{identity}
 use Rattle.hv_block.specs.Block.{regs_at}
 use Rattle.hv_map.specs.Item.{Item}
 use Rattle.hv_map.specs.Compose.{compose}
-use Rattle.hv_map.specs.Chain.{map_along, child_of, machines, pin_of, map_of, child_next, run_on, running, running_path, depth_limit}
+use Rattle.hv_map.specs.Chain.{map_along, child_of, machines, pin_of, map_of, child_next, run_on, running, running_path}
+use Rattle.hv_limits.specs.Limits.{depth_limit}
 use Rattle.hv_map.proofs.Assoc.{begins_from}
 use Rattle.hv_map.proofs.Words.{follows}
 

@@ -2,6 +2,7 @@
 -- which the parent has the child's control block. The machine at the end of a path of length j is at level j.
 use Rattle.std.specs.Prelude.{ℕ, zero, suc, ◌+◌, List, [], ◌∷◌, Option, Some, None, slice_get}
 use Rattle.std.specs.Option.{option_map, option_and_then}
+use Rattle.hv_limits.specs.Limits.{depth_limit}
 use Rattle.hv_word.specs.Storage.{page_count}
 use Rattle.hv_cpu.specs.Regs.{Regs}
 use Rattle.hv_store.specs.declared.access.Slot.{Slot}
@@ -11,10 +12,6 @@ use Rattle.hv_store.specs.Access.{identity}
 use Rattle.hv_block.specs.Block.{Held, block_of, regs_at}
 use Rattle.hv_map.specs.Item.{Item}
 use Rattle.hv_map.specs.Compose.{compose}
-
--- at how deep a level a machine can be
-abbrev pub depth_limit : ℕ
-depth_limit = 8
 
 -- the map of the machine at the end of the items, where F is the map of the machine before the first, at level j
 unfoldable pub along : List ℕ → List Slot → ℕ → List Item → List Slot

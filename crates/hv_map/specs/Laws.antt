@@ -8,7 +8,8 @@ use Rattle.hv_store.specs.declared.access.Way.TheVariants.{Open, Shut}
 use Rattle.hv_store.specs.Access.{identity, way_for}
 use Rattle.hv_map.specs.Compose.{compose, EachTableWord}
 use Rattle.hv_map.specs.Item.{Item}
-use Rattle.hv_map.specs.Chain.{along, depth_limit, map_of, pin_of, running_path}
+use Rattle.hv_map.specs.Chain.{along, map_of, pin_of, running_path}
+use Rattle.hv_limits.specs.Limits.{depth_limit}
 use Rattle.hv_map.specs.Words.{Chained, EachChain, syllables}
 use Rattle.hv_map.specs.Seen.{seen}
 use Rattle.hv_map.specs.Trail.{trail_of}

@@ -2,9 +2,10 @@
 
 ghost use Rattle.std.specs.Prelude.{◌≡◌, ◌<◌, ◌≤◌, ◌^◌, ◌++◌, ◌∷◌, [], Some, length, map, slice_get};
 ghost use Rattle.std.specs.Option.{option_map};
-ghost use Rattle.hv_map.specs.Chain.{depth_limit};
+ghost use Rattle.hv_limits.specs.Limits.{depth_limit};
 
-use crate::path::{DEPTH, Path};
+use crate::path::Path;
+use hv_limits::DEPTH;
 use std::marker::Model;
 
 /// One machine on a path: the bare page of its control block, how many pages it has, where its table is in its parent's
@@ -59,7 +60,7 @@ pub struct Chain {
 impl Model for Chain {
     ghost use Rattle.std.specs.Prelude.{◌≡◌, ◌≤◌, ◌^◌, All, List, length, take};
     ghost use Rattle.hv_map.specs.Item.{Item};
-    ghost use Rattle.hv_map.specs.Chain.{depth_limit};
+    ghost use Rattle.hv_limits.specs.Limits.{depth_limit};
 
     ghost Value = { List Item };
 

@@ -9,8 +9,8 @@ ghost use Rattle.hv_map.specs.Trail.{trail, trail_pages};
 
 use crate::chain::{Chain, Link};
 use crate::lookup::{entry_at, page_slot, pages_at};
-use crate::path::LEVELS;
 use crate::ways::Trail;
+use hv_limits::LEVELS;
 use hv_store::{Steps, Store};
 use hv_word::field;
 use std::marker::Brand;

@@ -2,7 +2,8 @@
 
 ghost use Rattle.std.specs.Prelude.{◌≡◌, ◌<◌, ◌≤◌, ◌^◌, ◌++◌, ◌∷◌, [], Some, length};
 ghost use Rattle.hv_word.specs.Storage.{page_count};
-ghost use Rattle.hv_map.specs.Chain.{depth_limit, map_along};
+ghost use Rattle.hv_map.specs.Chain.{map_along};
+ghost use Rattle.hv_limits.specs.Limits.{depth_limit};
 ghost use Rattle.hv_map.specs.Found.{found_on, item_of, IsFoundWithin};
 
 use crate::chain::{Chain, Link};

@@ -16,7 +16,7 @@ pub use following::trail;
 pub use found::{Found, child};
 pub use hv_store::{Slot, Way};
 pub use lookup::resolve;
-pub use path::{DEPTH, LEVELS, Path, Watch};
+pub use path::{Path, Watch};
 pub use pinning::pin;
 pub use view::View;
 pub use ways::Trail;

@@ -2,15 +2,10 @@
 
 ghost use Rattle.std.specs.Prelude.{◌≡◌, ◌<◌, ◌≤◌, ◌++◌, ◌∷◌, [], length, nat_eq, slice_index};
 ghost use Rattle.std.specs.List.{starts_with};
-ghost use Rattle.hv_map.specs.Chain.{depth_limit};
+ghost use Rattle.hv_limits.specs.Limits.{depth_limit};
 
+use hv_limits::DEPTH;
 use std::marker::Model;
-
-/// At how deep a level a machine can be: a path has at most as many syllables.
-pub const DEPTH: usize = 8;
-
-/// How many levels there are, from the bare machine's, 0, to the deepest.
-pub const LEVELS: usize = 9;
 
 /// A path to a machine, from the outside in: each syllable is the page on which a machine has its child's control block.
 /// It has at most `DEPTH` syllables.
@@ -22,7 +17,7 @@ pub struct Path {
 
 impl Model for Path {
     ghost use Rattle.std.specs.Prelude.{◌≡◌, ◌≤◌, ℕ, List, length, take};
-    ghost use Rattle.hv_map.specs.Chain.{depth_limit};
+    ghost use Rattle.hv_limits.specs.Limits.{depth_limit};
 
     ghost Value = { List ℕ };
 

@@ -4,7 +4,7 @@ ghost use Rattle.std.specs.Prelude.{◌≡◌, ◌<◌, ◌^◌, ℕ, IfSome};
 ghost use Rattle.hv_store.specs.Access.{way_for, refused};
 ghost use Rattle.hv_map.specs.Levels.{IsWayWithin, IsWithin};
 
-use crate::path::LEVELS;
+use hv_limits::LEVELS;
 use hv_store::{Access, Refusal, Slot, Way};
 
 /// The way of one page for reading, and the pages on it from the inside out: of the first `len` of `pages` the first is the

@@ -12,7 +12,8 @@ use Rattle.hv_block.specs.declared.Block.{Block}
 use Rattle.hv_block.specs.Block.{regs_at, is_block, held_at}
 use Rattle.hv_map.specs.Item.{Item}
 use Rattle.hv_map.specs.Compose.{compose}
-use Rattle.hv_map.specs.Chain.{depth_limit, along, map_along, child_of, child_next, run_on, running, running_path}
+use Rattle.hv_map.specs.Chain.{along, map_along, child_of, child_next, run_on, running, running_path}
+use Rattle.hv_limits.specs.Limits.{depth_limit}
 use Rattle.hv_map.specs.Links.{syllable_of}
 use Rattle.hv_map.specs.declared.found.Found.{Found}
 use Rattle.hv_map.specs.declared.found.Found.TheVariants.{Child, Malformed, Refused}

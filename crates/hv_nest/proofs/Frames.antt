@@ -21,7 +21,8 @@ use Rattle.hv_block.specs.Block.{Held, regs_at, block_of, put_regs, with_fault, 
 use Rattle.hv_block.proofs.Blocks.{block_holds}
 use Rattle.hv_map.specs.Item.{Item}
 use Rattle.hv_map.specs.Compose.{compose}
-use Rattle.hv_map.specs.Chain.{depth_limit, along, map_along, child_held, child_through, child_at, child_of, option_cons, machines, pin_of, child_next, run_on, running, running_path}
+use Rattle.hv_map.specs.Chain.{along, map_along, child_held, child_through, child_at, child_of, option_cons, machines, pin_of, child_next, run_on, running, running_path}
+use Rattle.hv_limits.specs.Limits.{depth_limit}
 use Rattle.hv_nest.specs.declared.outcome.StepKind.{StepKind}
 use Rattle.hv_nest.specs.declared.outcome.StepKind.TheVariants.{Worked as WorkedKind, Recall, Fault}
 use Rattle.hv_nest.specs.Kinds.{step_as}

@@ -14,7 +14,8 @@ use Rattle.hv_store.specs.Access.{way_for, refused, identity, open_at}
 use Rattle.hv_store.proofs.Identity.{length-identity}
 use Rattle.hv_block.specs.Block.{Held, block_of}
 use Rattle.hv_map.specs.Item.{Item}
-use Rattle.hv_map.specs.Chain.{depth_limit, along, map_along, pin_of, map_of, running_path}
+use Rattle.hv_map.specs.Chain.{along, map_along, pin_of, map_of, running_path}
+use Rattle.hv_limits.specs.Limits.{depth_limit}
 use Rattle.hv_map.specs.Trail.{trail_of}
 use Rattle.hv_map.proofs.Trails.{trail_law}
 use Rattle.hv_map.proofs.Views.{identity_below}

@@ -17,7 +17,8 @@ use Rattle.hv_block.specs.declared.Block.{Block}
 use Rattle.hv_block.specs.Block.{Held, block_of, put_regs}
 use Rattle.hv_map.specs.Item.{Item}
 use Rattle.hv_map.specs.Compose.{compose}
-use Rattle.hv_map.specs.Chain.{depth_limit, along, map_along}
+use Rattle.hv_map.specs.Chain.{along, map_along}
+use Rattle.hv_limits.specs.Limits.{depth_limit}
 use Rattle.hv_map.specs.declared.found.Found.{Found}
 use Rattle.hv_map.specs.declared.found.Found.TheVariants.{Child, Malformed, Refused}
 use Rattle.hv_map.specs.Found.{found_in, found_through, found_at, found_on, item_of}

@@ -11,7 +11,7 @@ use Rattle.hv_store.specs.declared.access.Way.{Way}
 use Rattle.hv_store.specs.declared.access.Way.TheVariants.{Open}
 use Rattle.hv_store.specs.Access.{identity}
 use Rattle.hv_map.specs.Carried.{MapLike}
-use Rattle.hv_map.specs.Chain.{depth_limit}
+use Rattle.hv_limits.specs.Limits.{depth_limit}
 use Rattle.hv_map.specs.Compose.{reading}
 use Rattle.hv_map.proofs.Views.{identity_like}
 use Rattle.hv_nest.specs.Step.{step_of, host_step_of}

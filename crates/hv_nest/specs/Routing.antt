@@ -10,7 +10,8 @@ use Rattle.hv_store.specs.declared.access.Slot.{Slot}
 use Rattle.hv_store.specs.declared.access.Way.TheVariants.{Open}
 use Rattle.hv_block.specs.Block.{block_of, regs_at}
 use Rattle.hv_map.specs.Item.{Item}
-use Rattle.hv_map.specs.Chain.{depth_limit, map_along, pin_of, running_path}
+use Rattle.hv_map.specs.Chain.{map_along, pin_of, running_path}
+use Rattle.hv_limits.specs.Limits.{depth_limit}
 use Rattle.hv_map.specs.Trail.{trail_of}
 use Rattle.hv_nest.specs.Step.{Stepped, Worked, Recalled, Faulted, Barred, malformed, too_deep, host_step_of}
 use Rattle.hv_nest.specs.Asks.{Ask, asks, first_refused, refusal_through}

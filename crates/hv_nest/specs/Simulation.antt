@@ -10,7 +10,7 @@ use Rattle.hv_store.specs.declared.access.Refusal.{Refusal}
 use Rattle.hv_store.specs.declared.access.Slot.{Slot}
 use Rattle.hv_store.specs.declared.access.Way.TheVariants.{Open}
 use Rattle.hv_map.specs.Carried.{Agree, MapLike, Opens, OpensSame, ShutBelow}
-use Rattle.hv_map.specs.Chain.{depth_limit}
+use Rattle.hv_limits.specs.Limits.{depth_limit}
 use Rattle.hv_map.specs.Compose.{reading}
 use Rattle.hv_nest.specs.Step.{Stepped, Worked, Recalled, Faulted, Barred, step_of, host_step_of}
 

@@ -8,10 +8,6 @@ pub record State : Type 0 where
   pub storage : List ℕ
   pub harts : List Regs
 
--- how many harts there can be
-abbrev pub harts_limit : ℕ
-harts_limit = 4
-
 -- the machine that a hart runs, if any, is on one of the pages of the storage
 abbrev pub IsNextInside : State → ℕ → Type 0
 IsNextInside st hart = IfSome (slice_get st.harts hart) (λ r. r.next < page_count st.storage)

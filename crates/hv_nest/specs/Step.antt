@@ -15,7 +15,7 @@ use Rattle.hv_store.specs.declared.access.Way.TheVariants.{Open, Shut}
 use Rattle.hv_store.specs.Access.{identity, refused}
 use Rattle.hv_exec.specs.Act.{Acted, Done, Refused, act_of}
 use Rattle.hv_block.specs.Block.{Held, block_of, put_regs, with_fault, access_word}
-use Rattle.hv_map.specs.Chain.{depth_limit}
+use Rattle.hv_limits.specs.Limits.{depth_limit}
 use Rattle.hv_map.specs.Compose.{compose}
 
 -- what a step comes to

@@ -2,13 +2,11 @@
 
 ghost use Rattle.std.specs.Prelude.{◌≡◌, ◌<◌, ◌≤◌, Some, length, replicate, slice_get, slice_set};
 ghost use Rattle.hv_cpu.specs.Regs.{reset_regs};
-ghost use Rattle.hv_nest.specs.State.{harts_limit};
+ghost use Rattle.hv_limits.specs.Limits.{harts_limit};
 
 use hv_cpu::{Cpu, reset};
+use hv_limits::HARTS;
 use std::marker::Model;
-
-/// How many harts there can be.
-pub const HARTS: usize = 4;
 
 /// The registers of one to `HARTS` harts.
 #[derive(Drop)]
@@ -20,7 +18,7 @@ pub struct Harts {
 impl Model for Harts {
     ghost use Rattle.std.specs.Prelude.{◌≡◌, ◌≤◌, List, length, take};
     ghost use Rattle.hv_cpu.specs.Regs.{Regs};
-    ghost use Rattle.hv_nest.specs.State.{harts_limit};
+    ghost use Rattle.hv_limits.specs.Limits.{harts_limit};
 
     ghost Value = { List Regs };
 

@@ -14,7 +14,7 @@ mod running;
 mod step;
 
 pub use changed::{Changed, ChangedRow};
-pub use harts::{HARTS, Harts};
+pub use harts::Harts;
 pub use line_row::LineRow;
 pub use nested::Nested;
 pub use outcome::{Outcome, StepKind};

@@ -1,7 +1,7 @@
 //! Engines that make the steps of the bare machine and of the machines inside it.
 
 ghost use Rattle.std.specs.Prelude.{◌≡◌, ◌<◌, ◌≤◌, Some, length, slice_get, bit_and};
-ghost use Rattle.hv_cpu.specs.Lines.{lines_mask};
+ghost use Rattle.hv_limits.specs.Limits.{lines_mask};
 
 use crate::outcome::Outcome;
 use hv_cpu::Cpu;
@@ -11,7 +11,8 @@ use hv_store::Store;
 /// The bare machine, with its storage and its harts, and the machines inside it. What an engine keeps besides that state
 /// can't be told from its answers.
 pub trait Nested {
-    ghost use Rattle.hv_nest.specs.State.{State, IsNextInside, harts_limit};
+    ghost use Rattle.hv_nest.specs.State.{State, IsNextInside};
+    ghost use Rattle.hv_limits.specs.Limits.{harts_limit};
 
     /// The storage and the harts.
     ghost state: { Self → State };

@@ -24,7 +24,8 @@ pub struct Plain {
 impl Model for Plain {
     ghost use Rattle.std.specs.Prelude.{◌≤◌, length, All};
     ghost use Rattle.hv_word.specs.Storage.{page_count};
-    ghost use Rattle.hv_nest.specs.State.{State, harts_limit};
+    ghost use Rattle.hv_nest.specs.State.{State};
+    ghost use Rattle.hv_limits.specs.Limits.{harts_limit};
     ghost use Rattle.hv_nest.specs.Kinds.{NextBelow};
 
     ghost Value = { State };

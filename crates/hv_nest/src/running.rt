@@ -8,7 +8,8 @@ ghost use Rattle.hv_nest.specs.Beyond.{beyond};
 
 use crate::step::entered;
 use hv_cpu::Cpu;
-use hv_map::{Chain, DEPTH, Found, Path, child};
+use hv_limits::DEPTH;
+use hv_map::{Chain, Found, Path, child};
 use hv_store::Store;
 
 /// The path of the machine that a hart with these registers runs.

@@ -4,7 +4,8 @@ ghost use Rattle.std.specs.Prelude.{◌≡◌, ◌≢◌, ℕ, ◌+◌, ◌-◌,
 ghost use Rattle.hv_word.specs.Storage.{page_count};
 ghost use Rattle.hv_exec.specs.Act.{act_of};
 ghost use Rattle.hv_block.specs.Block.{access_word};
-ghost use Rattle.hv_map.specs.Chain.{depth_limit, map_along, running_path};
+ghost use Rattle.hv_map.specs.Chain.{map_along, running_path};
+ghost use Rattle.hv_limits.specs.Limits.{depth_limit};
 ghost use Rattle.hv_exec.specs.Changes.{changed_regs};
 ghost use Rattle.hv_nest.specs.Changes.{TellsChanges};
 ghost use Rattle.hv_nest.specs.Frame.{IsFramedBy};
@@ -18,7 +19,8 @@ use crate::outcome::{Outcome, StepKind};
 use hv_cpu::Cpu;
 use hv_csr::{pending, take_trap};
 use hv_exec::act;
-use hv_map::{Chain, DEPTH, Found, child};
+use hv_limits::DEPTH;
+use hv_map::{Chain, Found, child};
 use hv_store::{Access, Refusal, Store};
 
 /// One step of a hart of the bare machine, whose next, if it has one, is a page of the storage.

@@ -9,7 +9,8 @@ use Rattle.hv_map.specs.Chain.{map_of}
 use Rattle.hv_map.specs.Seen.{seen}
 use Rattle.hv_nest.specs.State.{State}
 use Rattle.hv_nest.specs.Bare.{bare_of}
-use Rattle.hv_run.specs.Record.{Told, WatchTold, kept_limit}
+use Rattle.hv_run.specs.Record.{Told, WatchTold}
+use Rattle.hv_limits.specs.Limits.{kept_limit}
 use Rattle.hv_run.specs.Text.{line, machine_lines}
 use Rattle.hv_report.specs.Report.{machine_words, watch_line}
 

@@ -2,7 +2,7 @@
 use Rattle.std.proofs.Common.{◌≡◌, ◌<◌, ◌≤◌, List, [], ◌∷◌, ◌++◌, length, take, sym, ◌∙◌, arith}
 use Rattle.std.proofs.lemmas.List.{take_all, take-append-le, length_push}
 use Rattle.hv_nest.specs.Watched.{LineChange}
-use Rattle.hv_run.specs.Record.{kept_limit}
+use Rattle.hv_limits.specs.Limits.{kept_limit}
 
 pub kept_short : (xs : List LineChange) (x : LineChange) → length xs < kept_limit → xs ++ x ∷ [] ≡ take kept_limit (xs ++ x ∷ [])
 kept_short xs x lt = sym (take_all kept_limit (xs ++ x ∷ []) (omega (arith, length_push xs x)))

@@ -12,7 +12,8 @@ use Rattle.hv_nest.specs.Move.{Move, state_after, last_of}
 use Rattle.hv_nest.specs.Watched.{LineChange, Tally, no_tally, are_same, same_status, keeps_foot, foot, last_block, lines_of, is_counted, beside, tally_after, tally_of}
 use Rattle.hv_run.specs.declared.numbers.Counts.{Counts}
 use Rattle.hv_run.specs.declared.happened.Happened.{Happened}
-use Rattle.hv_run.specs.Record.{Count, no_count, count_after, count_of, kept_limit, last_kept, WatchOf, WatchTold, told_by, told_at, told_of_count, record_of}
+use Rattle.hv_run.specs.Record.{Count, no_count, count_after, count_of, last_kept, WatchOf, WatchTold, told_by, told_at, told_of_count, record_of}
+use Rattle.hv_limits.specs.Limits.{kept_limit}
 use Rattle.hv_apart.specs.Marked.{SetOf}
 use Rattle.hv_run.specs.Play.{Watching, Played, rows_told, mip_of, status_at, any_marked, counts_for, rows_of, status_differs, touches, told_after, watched_after, counts_after, all_after, played_after}
 use Rattle.hv_whole.specs.Whole.{IsMasked, AreMasked}

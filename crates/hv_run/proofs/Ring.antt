@@ -2,7 +2,8 @@
 use Rattle.std.proofs.Common.{◌≡◌, ℕ, suc, ◌+◌, ◌<◌, ◌≤◌, List, [], ◌∷◌, ◌++◌, length, append-nil, take, drop, sym, ap, ◌∙◌, arith, append_assoc, length-append, length-take, length-drop}
 use Rattle.std.proofs.Math.ListN.{set}
 use Rattle.std.proofs.lemmas.List.{drop_more, drop_all, take_more_set, drop-set-lt, set_split}
-use Rattle.hv_run.specs.Record.{FaultTold, kept_limit, last_kept}
+use Rattle.hv_run.specs.Record.{FaultTold, last_kept}
+use Rattle.hv_limits.specs.Limits.{kept_limit}
 
 -- around from i on, with one more at the end: the last of that, as many as there were
 turned : (xs : List FaultTold) (i m : ℕ) (x : FaultTold) → i < length xs → m ≡ 1 → drop m ((drop i xs ++ take i xs) ++ x ∷ []) ≡ drop (i + 1) xs ++ (take i xs ++ x ∷ [])

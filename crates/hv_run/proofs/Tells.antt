@@ -12,7 +12,8 @@ use Rattle.hv_nest.specs.Move.{StepOf, LinesOf, Moved, moved_of, lined_at, lined
 use Rattle.hv_nest.specs.Watched.{are_same, begins, is_outside}
 use Rattle.hv_run.specs.declared.numbers.Counts.{Counts}
 use Rattle.hv_run.specs.declared.happened.Happened.TheVariants.{Stepped, Lined}
-use Rattle.hv_run.specs.Record.{Count, FaultTold, kind_counted, last_kept, kept_limit}
+use Rattle.hv_run.specs.Record.{Count, FaultTold, kind_counted, last_kept}
+use Rattle.hv_limits.specs.Limits.{kept_limit}
 use Rattle.hv_run.specs.Play.{Watching, any_marked, kind_after}
 use Rattle.hv_run.proofs.Lists.{last_pushed}
 use Rattle.hv_run.proofs.Moves.{Tells, numbers}

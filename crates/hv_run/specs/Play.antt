@@ -11,7 +11,8 @@ use Rattle.hv_nest.specs.Watched.{LineChange, begins, is_outside}
 use Rattle.hv_run.specs.declared.numbers.Counts.{Counts}
 use Rattle.hv_run.specs.declared.happened.Happened.{Happened}
 use Rattle.hv_run.specs.declared.happened.Happened.TheVariants.{Stepped, Lined}
-use Rattle.hv_run.specs.Record.{WatchTold, Told, kept_limit, last_kept}
+use Rattle.hv_run.specs.Record.{WatchTold, Told, last_kept}
+use Rattle.hv_limits.specs.Limits.{kept_limit}
 use Rattle.hv_apart.specs.Marked.{is_marked}
 
 -- a watch: what is told of it so far, the set of its foot's places, and its present word with the interrupt lines

@@ -2,6 +2,7 @@
 use Rattle.std.specs.Prelude.{ℕ, ◌+◌, ◌-◌, Bool, List, [], ◌∷◌, ◌++◌, length, take, drop, Option, Some, None}
 use Rattle.std.specs.List.{flat_map}
 use Rattle.std.specs.Prelude.{replicate}
+use Rattle.hv_limits.specs.Limits.{kept_limit}
 use Rattle.hv_store.specs.declared.access.Access.{Access}
 use Rattle.hv_irq.specs.declared.Event.{Event}
 use Rattle.hv_irq.specs.declared.Event.TheVariants.{Turn, Lines}
@@ -55,10 +56,6 @@ count_after st (LinesOf hart mask) c = c
 unfoldable pub count_of : State → List Move → Count → Count
 count_of st [] c = c
 count_of st (move ∷ moves) c = count_of (state_after st move) moves (count_after st move c)
-
--- how many faults, and how many changes of lines for each watch, are kept
-abbrev pub kept_limit : ℕ
-kept_limit = 1024
 
 -- the last of a list, as many as are kept
 abbrev pub last_kept : {X : Type 0} → List X → List X

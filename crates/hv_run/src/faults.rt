@@ -1,14 +1,13 @@
 //! The last faults of a play.
 
 ghost use Rattle.std.specs.Prelude.{◌≡◌, ◌+◌, ◌<◌, ◌≤◌, ◌^◌, [], ◌∷◌, ◌++◌, IfOk, Some, length, slice_get};
-ghost use Rattle.hv_run.specs.Record.{kept_limit, last_kept};
+ghost use Rattle.hv_run.specs.Record.{last_kept};
+ghost use Rattle.hv_limits.specs.Limits.{kept_limit};
 
 use crate::fault::FaultRow;
+use hv_limits::KEPT;
 use std::alloc::{AllocError, Global};
 use std::marker::Model;
-
-/// How many faults a play keeps, and how many changes of lines for each watch.
-pub const KEPT: usize = 1024;
 
 /// The last faults of a play, at most `KEPT`. Once so many are held, the next takes the place of the oldest, at `oldest`.
 #[derive(Drop)]
@@ -19,7 +18,8 @@ pub(crate) struct Faults {
 
 impl Model for Faults {
     ghost use Rattle.std.specs.Prelude.{◌≡◌, ◌<◌, ◌≤◌, List, ◌++◌, length, take, drop, vec_capacity};
-    ghost use Rattle.hv_run.specs.Record.{FaultTold, kept_limit};
+    ghost use Rattle.hv_run.specs.Record.{FaultTold};
+    ghost use Rattle.hv_limits.specs.Limits.{kept_limit};
 
     ghost Value = { List FaultTold };
 

@@ -16,7 +16,6 @@ mod text;
 mod watched;
 
 pub use fault::FaultRow;
-pub use faults::KEPT;
 pub use moving::Play;
 pub use playing::play;
 pub use record::{Record, WatchRow};

@@ -1,7 +1,7 @@
 //! A play that goes on: moves of the bare machine, one after another, and what is told of them.
 
 ghost use Rattle.std.specs.Prelude.{◌≡◌, ◌≢◌, ◌≤◌, ◌+◌, ◌<◌, ◌^◌, ◌-◌, [], ◌∷◌, IfOk, Some, bit_and, length, replicate, slice_get, vec_capacity};
-ghost use Rattle.hv_cpu.specs.Lines.{lines_mask};
+ghost use Rattle.hv_limits.specs.Limits.{lines_mask};
 ghost use Rattle.hv_nest.specs.Changes.{TellsChanges};
 ghost use Rattle.hv_nest.specs.Move.{StepOf, LinesOf, moved_of, lined_state, last_of, running_of};
 ghost use Rattle.hv_irq.specs.Events.{hart_of, mask_of, steps_of};

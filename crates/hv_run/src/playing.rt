@@ -1,7 +1,7 @@
 //! Playing a schedule.
 
 ghost use Rattle.std.specs.Prelude.{◌≡◌, ◌≤◌, ◌<◌, All, IfOk, OnErr, OnOk, bit_and, length};
-ghost use Rattle.hv_cpu.specs.Lines.{lines_mask};
+ghost use Rattle.hv_limits.specs.Limits.{lines_mask};
 ghost use Rattle.hv_irq.specs.Events.{hart_of, mask_of, total_of};
 ghost use Rattle.hv_nest.specs.Move.{last_of};
 ghost use Rattle.hv_run.specs.Promises.{AreBareRuns, AreRouted};

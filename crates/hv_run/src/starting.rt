@@ -2,14 +2,15 @@
 
 ghost use Rattle.std.specs.Prelude.{◌≡◌, ◌≤◌, ◌-◌, ◌<◌, [], Some, IfOk, length, map, slice_get};
 ghost use Rattle.std.specs.Option.{option_map};
-ghost use Rattle.hv_map.specs.Chain.{depth_limit, pin_of};
+ghost use Rattle.hv_map.specs.Chain.{pin_of};
+ghost use Rattle.hv_limits.specs.Limits.{depth_limit};
 ghost use Rattle.hv_map.specs.Links.{syllable_of};
 ghost use Rattle.hv_nest.specs.Watched.{last_block, no_tally};
 ghost use Rattle.hv_run.specs.Stands.{IsNew, IsWatchable, NewAt, watch_of};
 
-use crate::faults::KEPT;
 use crate::watched::{Watched, status_of};
 use hv_apart::{Footing, apart, one_to_one};
+use hv_limits::KEPT;
 use hv_map::{Chain, Path, Watch, pin};
 use hv_nest::Nested;
 use std::alloc::{AllocError, Global};

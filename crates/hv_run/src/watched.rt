@@ -7,14 +7,13 @@ ghost use Rattle.hv_map.specs.Chain.{map_along};
 ghost use Rattle.hv_nest.specs.Watched.{foot, is_outside, last_block};
 ghost use Rattle.hv_run.specs.Play.{any_marked, counts_for, rows_of, status_at, status_differs, touches, watched_after, watching_after, watching_beside};
 ghost use Rattle.hv_run.specs.Fits.{FitsRows};
-ghost use Rattle.hv_run.specs.Record.{kept_limit};
+ghost use Rattle.hv_limits.specs.Limits.{kept_limit};
 
-use crate::faults::KEPT;
 use crate::happened::Happened;
 use crate::record::WatchRow;
 use crate::rows::Rows;
 use hv_apart::Footing;
-use hv_cpu::LINES_MASK;
+use hv_limits::{KEPT, LINES};
 use hv_map::{Chain, Path};
 use hv_nest::{Changed, LineRow, Nested, StepKind};
 use hv_store::Store;
@@ -41,7 +40,7 @@ pub(crate) struct Watched {
 
 impl Model for Watched {
     ghost use Rattle.std.specs.Prelude.{◌≤◌, length, vec_capacity};
-    ghost use Rattle.hv_run.specs.Record.{kept_limit};
+    ghost use Rattle.hv_limits.specs.Limits.{kept_limit};
     ghost use Rattle.hv_run.specs.Play.{Watching};
 
     ghost Value = { Watching };
@@ -139,9 +138,9 @@ impl Watched {
         requires { self.old.told.line_total < 2 ^ 62 }
         ensures { self.new ≡ watching_beside touches status self.old }
     {
-        let bits = status & LINES_MASK;
+        let bits = status & LINES;
         self.touched = either(self.touched, touches);
-        if self.status & LINES_MASK == bits {
+        if self.status & LINES == bits {
             self.status = status;
             return;
         }
@@ -220,7 +219,7 @@ fn word_at(store: &Store, page: u32) -> u32
 fn status_differs(block: Option<u32>, old: u32, new: u32) -> bool
     ensures { result ≡ status_differs block old new }
 {
-    block.is_some() && old - (old & LINES_MASK) != new - (new & LINES_MASK)
+    block.is_some() && old - (old & LINES) != new - (new & LINES)
 }
 
 // Whether a move changed a word that the foot has.

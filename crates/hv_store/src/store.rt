@@ -1,6 +1,7 @@
 //! The bare storage.
 
 ghost use Rattle.std.specs.Prelude.{◌≡◌, ℕ, ◌+◌, ◌*◌, ◌<◌, ◌≤◌, IfOk, length, slice_index, slice_set};
+ghost use Rattle.hv_limits.specs.Limits.{pages_limit};
 ghost use Rattle.hv_word.specs.Storage.{page_count};
 ghost use Rattle.hv_store.specs.Access.{identity};
 ghost use Rattle.hv_store.specs.Zeros.{zeros};
@@ -20,12 +21,13 @@ pub struct Store {
 
 impl Model for Store {
     ghost use Rattle.std.specs.Prelude.{◌≡◌, ◌≤◌, ◌*◌, ℕ, List, length};
+    ghost use Rattle.hv_limits.specs.Limits.{pages_limit};
 
     ghost Value = { List ℕ };
 
     ghost view = { λ s. s.words.items };
 
-    ghost invariant = { λ s. (length s.words.items ≡ 1024 * s.pages) × (1 ≤ s.pages) × (s.pages ≤ 16384) };
+    ghost invariant = { λ s. (length s.words.items ≡ 1024 * s.pages) × (1 ≤ s.pages) × (s.pages ≤ pages_limit) };
 }
 
 impl Store {
@@ -33,7 +35,7 @@ impl Store {
     #[tactic(auto, unfolding(crate::specs::Zeros::zeros))]
     pub fn new(alloc: Global, pages: u32) -> Result<Store, AllocError>
         requires some { 1 ≤ pages }
-        requires bound { pages ≤ 16384 }
+        requires bound { pages ≤ pages_limit }
         ensures { IfOk result (λ s. s ≡ zeros (1024 * pages)) }
     {
         let words = vec![in alloc; 0; 1024 * pages as usize]?;
@@ -45,7 +47,7 @@ impl Store {
         ensures words { length self.now ≡ 1024 * result }
         ensures count { result ≡ page_count self.now }
         ensures some { 1 ≤ result }
-        ensures bound { result ≤ 16384 }
+        ensures bound { result ≤ pages_limit }
     {
         self.pages
     }

@@ -18,7 +18,8 @@ use Rattle.hv_whole.proofs.Readings.{regs_last}
 use Rattle.hv_report.specs.Report.{machine_words, words_of}
 use Rattle.hv_report.specs.Check.{hart_regs, watched_regs, bare_words, checked_text}
 use Rattle.hv_run.specs.Promises.{AreBareRuns, HasRegisters, IsAsBare, IsBareRun, twin_after}
-use Rattle.hv_run.specs.Record.{WatchOf, kept_limit, told_by}
+use Rattle.hv_run.specs.Record.{WatchOf, told_by}
+use Rattle.hv_limits.specs.Limits.{kept_limit}
 use Rattle.hv_run.proofs.Guests.{at_last}
 use Rattle.hv_top.specs.Shown.{IsShownBy, IsShown, AreShown, tally_over}
 

@@ -12,7 +12,8 @@ use Rattle.hv_map.specs.Chain.{pin_of}
 use Rattle.hv_nest.specs.State.{State}
 use Rattle.hv_nest.specs.Move.{Move, StepOf, LinesOf, state_after}
 use Rattle.hv_nest.specs.Watched.{Tally, no_tally, is_counted, beside, tally_after, tally_of, foot, last_block}
-use Rattle.hv_run.specs.Record.{WatchOf, kept_limit, schedule, told_by, told_at, record_of}
+use Rattle.hv_run.specs.Record.{WatchOf, schedule, told_by, told_at, record_of}
+use Rattle.hv_limits.specs.Limits.{kept_limit}
 use Rattle.hv_run.specs.Run.{steps_in}
 use Rattle.hv_run.specs.Stands.{EachWatch, IsPinned, IsWatchable, CanWatch}
 use Rattle.hv_twin.proofs.Told.{told_never_fall, told_have_lines}

@@ -1,6 +1,6 @@
 -- A job that is built and played, and the bare machines beside its watched ones.
 use Rattle.std.specs.Prelude.{◌≡◌, ℕ, ◌^◌, ◌<◌, ◌≤◌, All, List, [], length, Option, Some, None, Result, Ok, Err, bit_and}
-use Rattle.hv_cpu.specs.Lines.{lines_mask}
+use Rattle.hv_limits.specs.Limits.{lines_mask}
 use Rattle.hv_job.specs.declared.job.Job.{Job}
 use Rattle.hv_load.specs.Build.{build_of}
 use Rattle.hv_load.specs.declared.ends.BuildKind.{BuildKind}

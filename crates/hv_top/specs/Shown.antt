@@ -9,7 +9,8 @@ use Rattle.hv_nest.specs.Watched.{Tally, no_tally, tally_of, foot, last_block}
 use Rattle.hv_report.specs.Report.{machine_words, watch_line, watch_text}
 use Rattle.hv_report.specs.Check.{checked_watch}
 use Rattle.hv_run.specs.Promises.{twin_after}
-use Rattle.hv_run.specs.Record.{WatchOf, kept_limit, told_by}
+use Rattle.hv_run.specs.Record.{WatchOf, told_by}
+use Rattle.hv_limits.specs.Limits.{kept_limit}
 use Rattle.hv_run.specs.Text.{line}
 use Rattle.hv_run.specs.Stands.{EachWatch}
 

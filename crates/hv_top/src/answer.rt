@@ -1,7 +1,7 @@
 //! What an input is answered.
 
 ghost use Rattle.std.specs.Prelude.{◌≡◌, ◌≤◌, false, length, IfOk, OnOk};
-ghost use Rattle.hv_io.specs.declared.TheConstants.{INPUT_LIMIT};
+ghost use Rattle.hv_limits.specs.Limits.{input_limit};
 ghost use Rattle.hv_top.specs.Answer.{output_in};
 ghost use Rattle.hv_top.specs.Commands.{IsPromised, output_of, reads_input};
 ghost use Rattle.hv_top.specs.Output.{Text, refusal};
@@ -27,7 +27,7 @@ pub struct Answer {
 /// What this input is answered under a command.
 #[tactic(auto, unfolding(crate::specs::Commands::output_of, crate::specs::Commands::IsPromised))]
 pub fn answer_to(alloc: Global, command: Command, input: &[u8]) -> Result<Answer, AllocError>
-    requires { length input.now ≤ INPUT_LIMIT }
+    requires { length input.now ≤ input_limit }
     ensures output { IfOk result (λ answer. output_in answer ≡ output_of command input.now) }
     ensures promised { OnOk result (IsPromised command input.now) }
     ensures accepted { IfOk result (λ answer. reads_input command ≡ false → answer.refused ≡ false) }

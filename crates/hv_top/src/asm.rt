@@ -1,7 +1,7 @@
 //! The command `asm`.
 
 ghost use Rattle.std.specs.Prelude.{◌≡◌, ◌≤◌, ◌++◌, length, IfOk, OnOk};
-ghost use Rattle.hv_io.specs.declared.TheConstants.{INPUT_LIMIT};
+ghost use Rattle.hv_limits.specs.Limits.{input_limit};
 ghost use Rattle.hv_top.specs.Answer.{output_in};
 ghost use Rattle.hv_top.specs.Asm.{asm_kind_text, asm_output, word_lines};
 
@@ -13,7 +13,7 @@ use std::alloc::{AllocError, Global};
 /// The words of an assembly text whose first address is 0, each as eight hexadecimal digits on a line of its own, or the
 /// refusal of the least line that is refused.
 pub fn assembled(alloc: Global, input: &[u8]) -> Result<Answer, AllocError>
-    requires { length input.now ≤ INPUT_LIMIT }
+    requires { length input.now ≤ input_limit }
     ensures { IfOk result (λ answer. output_in answer ≡ asm_output input.now) }
 {
     match assemble(alloc, input, 0) {

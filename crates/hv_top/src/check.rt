@@ -3,7 +3,7 @@
 ghost use Rattle.std.specs.Option.{option_map};
 ghost use Rattle.std.specs.Prelude.{◌≡◌, ◌<◌, ◌≤◌, ◌++◌, All, Ok, Some, length, IfOk, IfSome, IsOk, IsSome, OnOk};
 ghost use Rattle.hv_block.specs.Block.{block_of, regs_at};
-ghost use Rattle.hv_io.specs.declared.TheConstants.{INPUT_LIMIT};
+ghost use Rattle.hv_limits.specs.Limits.{input_limit};
 ghost use Rattle.hv_job.specs.IsJob.{IsJob};
 ghost use Rattle.hv_load.specs.Build.{build_of};
 ghost use Rattle.hv_load.specs.Ready.{IsReady};
@@ -35,7 +35,7 @@ use std::alloc::{AllocError, Global};
 /// first line that is refused: in its text, or else when it is built.
 #[tactic(auto, unfolding(crate::specs::Check::check_output, crate::specs::Run::TextIsKept, crate::specs::Run::JobIsKept))]
 pub fn checked(alloc: Global, input: &[u8]) -> Result<Answer, AllocError>
-    requires { length input.now ≤ INPUT_LIMIT }
+    requires { length input.now ≤ input_limit }
     ensures output { IfOk result (λ answer. output_in answer ≡ check_output input.now) }
     ensures kept { OnOk result (TextIsKept input.now) }
 {

@@ -1,7 +1,7 @@
 //! The command `debug`.
 
 ghost use Rattle.std.specs.Prelude.{◌≡◌, ◌≤◌, Ok, length, IfOk};
-ghost use Rattle.hv_io.specs.declared.TheConstants.{INPUT_LIMIT};
+ghost use Rattle.hv_limits.specs.Limits.{input_limit};
 ghost use Rattle.hv_job.specs.IsJob.{IsJob};
 ghost use Rattle.hv_load.specs.Build.{build_of};
 ghost use Rattle.hv_load.specs.Ready.{IsReady};
@@ -20,7 +20,7 @@ use std::alloc::{AllocError, Global};
 /// when it is built.
 #[tactic(auto, unfolding(crate::specs::Debug::debug_output))]
 pub fn debugged(alloc: Global, input: &[u8]) -> Result<Answer, AllocError>
-    requires { length input.now ≤ INPUT_LIMIT }
+    requires { length input.now ≤ input_limit }
     ensures { IfOk result (λ answer. output_in answer ≡ debug_output input.now) }
 {
     match opened(alloc, input)? {

@@ -2,7 +2,7 @@
 
 ghost use Rattle.std.specs.Prelude.{◌≡◌, ◌≤◌, ◌++◌, length, IfOk, OnOk};
 ghost use Rattle.hv_dis.specs.Dis.{dis_of};
-ghost use Rattle.hv_io.specs.declared.TheConstants.{INPUT_LIMIT};
+ghost use Rattle.hv_limits.specs.Limits.{input_limit};
 ghost use Rattle.hv_run.specs.Text.{line as line_of};
 ghost use Rattle.hv_top.specs.Answer.{output_in};
 ghost use Rattle.hv_top.specs.Dis.{dis_output, word_in};
@@ -15,7 +15,7 @@ use std::alloc::{AllocError, Global};
 
 /// The instruction of each line, or the refusal of the first line that isn't exactly eight hexadecimal digits.
 pub fn disassembled(alloc: Global, input: &[u8]) -> Result<Answer, AllocError>
-    requires { length input.now ≤ INPUT_LIMIT }
+    requires { length input.now ≤ input_limit }
     ensures { IfOk result (λ answer. output_in answer ≡ dis_output input.now) }
 {
     let mut text = Vec::new(alloc);

@@ -5,7 +5,7 @@ ghost use Rattle.std.specs.Prelude.{◌≡◌, ◌≢◌, ◌↔◌, ◌+◌, �
 ghost use Rattle.std.specs.Io.KnownBytes.{Appends, IsAtEnd};
 ghost use Rattle.hv_io.specs.Faults.{Rose};
 ghost use Rattle.hv_io.specs.Whole.{Gives, AppendsFront, LacksRoom};
-ghost use Rattle.hv_io.specs.declared.TheConstants.{INPUT_LIMIT};
+ghost use Rattle.hv_limits.specs.Limits.{input_limit};
 ghost use Rattle.hv_words.specs.Table.{command_of};
 ghost use Rattle.hv_top.specs.Commands.{IsPromised, OnInput, output_of, reads, reads_input as reads_input_of};
 ghost use Rattle.hv_top.specs.Output.{Ends, IsAnswer, IsRefusalAnd, IsTextAnd, WritesNothing, text_of};
@@ -79,8 +79,8 @@ pub fn virtualize<S: Source, K: Sink>(
 
     // More bytes than the limit were given, and only then.
     ensures long { reads (command_of (map string_bytes words.now)) ≡ true →
-        Gives (S.left source.old) (S.left source.new) (λ count. (result ≡ TOO_LONG) ↔ (INPUT_LIMIT < count)) }
-    ensures longer { result ≡ TOO_LONG → IfSome (S.left source.old) (λ input. INPUT_LIMIT < length input) }
+        Gives (S.left source.old) (S.left source.new) (λ count. (result ≡ TOO_LONG) ↔ (input_limit < count)) }
+    ensures longer { result ≡ TOO_LONG → IfSome (S.left source.old) (λ input. input_limit < length input) }
 
     // A fault comes only where the count of that side rose. A front of the output was appended.
     ensures read { result ≡ READ_FAULT → Rose (S.faults source.old) (S.faults source.new) }
@@ -98,7 +98,7 @@ pub fn virtualize<S: Source, K: Sink>(
         ¬ Rose (K.faults sink.old) (K.faults sink.new) →
         IfOk (command_of (map string_bytes words.now)) (λ command.
         OnInput command (S.left source.old) (λ input.
-        length input ≤ INPUT_LIMIT → IsAnswer (output_of command input) result)) }
+        length input ≤ input_limit → IsAnswer (output_of command input) result)) }
     ensures statuses { (result ≤ NO_MEMORY) × (result ≢ 1) }
 
     // What either side was made with stays.
@@ -133,13 +133,13 @@ pub fn virtualize_honest(
         OnInput command (Some source.old) (IsPromised command)) }
     ensures usage { (result ≡ USAGE) ↔ IsErr (command_of (map string_bytes words.now)) }
     ensures unread { reads (command_of (map string_bytes words.now)) ≡ false → source.new ≡ source.old }
-    ensures long { result ≡ TOO_LONG → INPUT_LIMIT < length source.old }
+    ensures long { result ≡ TOO_LONG → input_limit < length source.old }
     ensures read { result ≢ READ_FAULT }
     ensures write { IfOk (command_of (map string_bytes words.now)) (λ command.
         OnInput command (Some source.old) (λ input. sink.old.fails ≡ [] →
         length sink.old.held + length (text_of (output_of command input)) < sink.old.room → result ≢ WRITE_FAULT)) }
     ensures complete { IfOk (command_of (map string_bytes words.now)) (λ command.
-        OnInput command (Some source.old) (λ input. length input ≤ INPUT_LIMIT → sink.old.fails ≡ [] →
+        OnInput command (Some source.old) (λ input. length input ≤ input_limit → sink.old.fails ≡ [] →
         length sink.old.held + length (text_of (output_of command input)) < sink.old.room →
         IsAnswer (output_of command input) result)) }
     ensures statuses { (result ≤ NO_MEMORY) × (result ≢ 1) }
@@ -171,8 +171,8 @@ fn answer_source<S: Source, K: Sink>(
         IsRefusalAnd (output_of command input) (Appends (K.held sink.old) (K.held sink.new))) }
     ensures promised { result ≡ DONE → IfSome (S.left source.old) (IsPromised command) }
     ensures ended { Ends result (IsAtEnd (S.left source.new)) }
-    ensures long { Gives (S.left source.old) (S.left source.new) (λ count. (result ≡ TOO_LONG) ↔ (INPUT_LIMIT < count)) }
-    ensures longer { result ≡ TOO_LONG → IfSome (S.left source.old) (λ input. INPUT_LIMIT < length input) }
+    ensures long { Gives (S.left source.old) (S.left source.new) (λ count. (result ≡ TOO_LONG) ↔ (input_limit < count)) }
+    ensures longer { result ≡ TOO_LONG → IfSome (S.left source.old) (λ input. input_limit < length input) }
     ensures read { result ≡ READ_FAULT → Rose (S.faults source.old) (S.faults source.new) }
     ensures write { result ≡ WRITE_FAULT → Rose (K.faults sink.old) (K.faults sink.new) }
     ensures front { result ≡ WRITE_FAULT → IfSome (S.left source.old) (λ input.
@@ -183,7 +183,7 @@ fn answer_source<S: Source, K: Sink>(
     ensures complete { ¬ Rose (S.faults source.old) (S.faults source.new) →
         ¬ Rose (K.faults sink.old) (K.faults sink.new) →
         IfSome (S.left source.old) (λ input.
-        length input ≤ INPUT_LIMIT → IsAnswer (output_of command input) result) }
+        length input ≤ input_limit → IsAnswer (output_of command input) result) }
     ensures statuses { (result ≤ NO_MEMORY) × (result ≢ 1) × (result ≢ USAGE) }
     ensures source { S.made source.new ≡ S.made source.old }
     ensures sink { K.made sink.new ≡ K.made sink.old }
@@ -198,7 +198,7 @@ fn answer_source<S: Source, K: Sink>(
 
 // Writes what the command answers an input.
 fn answer_input<K: Sink>(alloc: Global, command: Command, input: &[u8], sink: &mut K) -> u8
-    requires { length input.now ≤ INPUT_LIMIT }
+    requires { length input.now ≤ input_limit }
     ensures done { result ≡ DONE → IsTextAnd (output_of command input.now) (Appends (K.held sink.old) (K.held sink.new)) }
     ensures refused { result ≡ REFUSED →
         IsRefusalAnd (output_of command input.now) (Appends (K.held sink.old) (K.held sink.new)) }

@@ -1,7 +1,7 @@
 //! An input that is opened: its text is read as a job, and the job is built.
 
 ghost use Rattle.std.specs.Prelude.{◌≡◌, ◌≤◌, length, IfOk};
-ghost use Rattle.hv_io.specs.declared.TheConstants.{INPUT_LIMIT};
+ghost use Rattle.hv_limits.specs.Limits.{input_limit};
 ghost use Rattle.hv_job.specs.IsJob.{IsJob};
 ghost use Rattle.hv_top.specs.Jobs.{build_kind_text as build_kind_text_of, job_kind_text as job_kind_text_of};
 ghost use Rattle.hv_top.specs.Opening.{IsOpening, IsStarting};
@@ -22,7 +22,7 @@ pub enum Opening {
 /// is built.
 #[tactic(auto, unfolding(crate::specs::Run::TextIsKept))]
 pub fn opened(alloc: Global, input: &[u8]) -> Result<Opening, AllocError>
-    requires { length input.now ≤ INPUT_LIMIT }
+    requires { length input.now ≤ input_limit }
     ensures { IfOk result (IsOpening input.now) }
 {
     match parse_job(alloc, input) {

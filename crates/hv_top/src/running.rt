@@ -1,7 +1,7 @@
 //! The command `run`.
 
 ghost use Rattle.std.specs.Prelude.{◌≡◌, ◌≤◌, Ok, length, IfOk, OnOk};
-ghost use Rattle.hv_io.specs.declared.TheConstants.{INPUT_LIMIT};
+ghost use Rattle.hv_limits.specs.Limits.{input_limit};
 ghost use Rattle.hv_job.specs.IsJob.{IsJob};
 ghost use Rattle.hv_load.specs.Build.{build_of};
 ghost use Rattle.hv_load.specs.Ready.{IsReady};
@@ -20,7 +20,7 @@ use std::alloc::{AllocError, Global};
 /// The report on a job, or the refusal of the first line that is refused: in its text, or else when it is built.
 #[tactic(auto, unfolding(crate::specs::Run::run_output, crate::specs::Run::TextIsKept, crate::specs::Run::JobIsKept))]
 pub fn reported(alloc: Global, input: &[u8]) -> Result<Answer, AllocError>
-    requires { length input.now ≤ INPUT_LIMIT }
+    requires { length input.now ≤ input_limit }
     ensures output { IfOk result (λ answer. output_in answer ≡ run_output input.now) }
     ensures kept { OnOk result (TextIsKept input.now) }
 {

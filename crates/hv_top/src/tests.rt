@@ -5,7 +5,8 @@ ghost use Rattle.std.specs.Prelude.{◌<◌};
 use super::*;
 use crate::refusals::REFUSALS;
 use crate::rows::{JOBS, KERNELS, Row};
-use hv_io::{INPUT_LIMIT, MemSource};
+use hv_io::MemSource;
+use hv_limits::INPUT_BYTES;
 use std::alloc::AllocError;
 use std::test::Fail;
 
@@ -123,7 +124,7 @@ fn other_words_read_and_write_nothing(rt: HostRuntime) -> Result<(), Fail> {
 
 /// So many bytes more than an input may have.
 fn past_limit(more: u8) -> usize {
-    INPUT_LIMIT as usize + usize::from(more)
+    INPUT_BYTES as usize + usize::from(more)
 }
 
 #[test]

@@ -11,7 +11,8 @@ use Rattle.hv_store.specs.declared.access.Way.TheVariants.{Open, Shut}
 use Rattle.hv_store.specs.Access.{identity}
 use Rattle.hv_block.specs.Block.{regs_at, with_fault, access_word, IsOther}
 use Rattle.hv_map.specs.Item.{Item}
-use Rattle.hv_map.specs.Chain.{depth_limit, running, running_path}
+use Rattle.hv_map.specs.Chain.{running, running_path}
+use Rattle.hv_limits.specs.Limits.{depth_limit}
 use Rattle.hv_map.specs.Compose.{reading}
 use Rattle.hv_map.specs.Seen.{seen}
 use Rattle.hv_map.specs.Words.{Chained, syllables}

@@ -8,7 +8,8 @@ use Rattle.hv_store.specs.Access.{identity}
 use Rattle.hv_block.specs.Block.{regs_at}
 use Rattle.hv_map.specs.Item.{Item}
 use Rattle.hv_map.specs.Apart.{is_apart, is_one, blocks_of, tables_along, open_pages, table_pages}
-use Rattle.hv_map.specs.Chain.{depth_limit, machines, map_along, pin_of}
+use Rattle.hv_map.specs.Chain.{machines, map_along, pin_of}
+use Rattle.hv_limits.specs.Limits.{depth_limit}
 use Rattle.hv_map.specs.Words.{Chained, syllables}
 use Rattle.hv_map.proofs.Words.{machines_chained}
 use Rattle.hv_nest.specs.Move.{last_of}

@@ -9,7 +9,8 @@ use Rattle.hv_store.specs.Access.{open_at}
 use Rattle.hv_block.specs.Block.{regs_at}
 use Rattle.hv_map.specs.Item.{Item}
 use Rattle.hv_map.specs.Compose.{compose}
-use Rattle.hv_map.specs.Chain.{depth_limit, map_along, pin_of}
+use Rattle.hv_map.specs.Chain.{map_along, pin_of}
+use Rattle.hv_limits.specs.Limits.{depth_limit}
 use Rattle.hv_map.specs.Apart.{is_apart, table_pages}
 use Rattle.hv_map.specs.Seen.{seen}
 

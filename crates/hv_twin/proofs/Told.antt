@@ -4,7 +4,8 @@ use Rattle.std.specs.Prelude.{All, slice_get, bit_and}
 use Rattle.std.proofs.lemmas.List.Elements.{All-nil, All-push, All-take}
 use Rattle.hv_word.specs.Storage.{word_at}
 use Rattle.hv_cpu.specs.Regs.{Regs}
-use Rattle.hv_cpu.specs.Lines.{lines, lines_mask}
+use Rattle.hv_cpu.specs.Lines.{lines}
+use Rattle.hv_limits.specs.Limits.{lines_mask}
 use Rattle.hv_cpu.proofs.Masks.{and_within}
 use Rattle.hv_map.specs.Item.{Item}
 use Rattle.hv_nest.specs.State.{State}

@@ -2,7 +2,7 @@
 
 ghost use Rattle.std.specs.Prelude.{◌≡◌, ◌≤◌, ◌^◌, All, bit_and, length, replicate};
 ghost use Rattle.hv_word.specs.Storage.{page_count};
-ghost use Rattle.hv_cpu.specs.Lines.{lines_mask};
+ghost use Rattle.hv_limits.specs.Limits.{lines_mask};
 ghost use Rattle.hv_nest.specs.Bare.{alone, bare_of};
 ghost use Rattle.hv_nest.specs.Kinds.{NextBelow};
 ghost use Rattle.hv_nest.specs.Move.{StepOf, last_of, state_after};

@@ -14,7 +14,8 @@ use Rattle.hv_block.specs.Block.{Held, block_of, IsOther}
 use Rattle.hv_block.proofs.Blocks.{block_sized}
 use Rattle.hv_map.specs.Item.{Item}
 use Rattle.hv_map.specs.Compose.{Named, Stopped, look, page_named, table_of, reading, compose}
-use Rattle.hv_map.specs.Chain.{child_held, child_through, child_at, machines, map_along, pin_of, depth_limit}
+use Rattle.hv_map.specs.Chain.{child_held, child_through, child_at, machines, map_along, pin_of}
+use Rattle.hv_limits.specs.Limits.{depth_limit}
 use Rattle.hv_map.specs.Apart.{are_distinct, opened, open_pages, table_pages, table_open, tables_of, directory_of, tables_along, blocks_of, is_apart}
 use Rattle.hv_map.specs.Carried.{Opens}
 use Rattle.hv_map.specs.Words.{EachChain, syllables}

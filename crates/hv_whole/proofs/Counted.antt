@@ -8,7 +8,8 @@ use Rattle.hv_cpu.specs.Regs.{Regs, reset_regs}
 use Rattle.hv_store.specs.declared.access.Slot.{Slot}
 use Rattle.hv_store.specs.Access.{identity}
 use Rattle.hv_map.specs.Item.{Item}
-use Rattle.hv_map.specs.Chain.{depth_limit, running, running_path}
+use Rattle.hv_map.specs.Chain.{running, running_path}
+use Rattle.hv_limits.specs.Limits.{depth_limit}
 use Rattle.hv_map.specs.Words.{syllables}
 use Rattle.hv_nest.specs.State.{State}
 use Rattle.hv_nest.specs.Step.{Stepped, Worked, Recalled, Faulted, Barred, step_of, host_step_of}

@@ -24,7 +24,7 @@ use Rattle.hv_exec.specs.Memory.{lane_at}
 use Rattle.hv_exec.specs.Act.{Acted, Done, Refused, trapped, loaded, load_at, stored, store_at, entered, enter_page, enter_at, carried_out, decoded, fetched, fetch_at, act_of}
 use Rattle.hv_block.specs.Block.{Held, block_of, with_fault, access_word}
 use Rattle.hv_block.proofs.Words.{length-put_regs}
-use Rattle.hv_map.specs.Chain.{depth_limit}
+use Rattle.hv_limits.specs.Limits.{depth_limit}
 use Rattle.hv_map.specs.Compose.{compose}
 use Rattle.hv_nest.specs.Step.{Stepped, Worked, Recalled, Faulted, Barred, Machine, idle, interrupted, worked, told, put_back, malformed, child_step, child_through, child_at, descended, step_on, step_of, host_step_of}
 use Rattle.hv_nest.specs.State.{State}

@@ -3,7 +3,8 @@ use Rattle.std.proofs.Common.{◌≡◌, ℕ, zero, suc, ◌+◌, ◌-◌, ◌^�
 use Rattle.std.specs.Int.Bits.{or_add_and, and_zero_r, and_comm}
 use Rattle.std.proofs.Math.Nat.{pow-suc}
 use Rattle.std.proofs.lemmas.Nat.{and_le_l, and-not, or_disjoint}
-use Rattle.hv_cpu.specs.Lines.{lines, unlined, relined, lines_mask}
+use Rattle.hv_cpu.specs.Lines.{lines, unlined, relined}
+use Rattle.hv_limits.specs.Limits.{lines_mask}
 use Rattle.hv_cpu.proofs.Masks.{and_assoc, or_and}
 
 -- the lines that a word has, put into it

@@ -6,7 +6,8 @@ use Rattle.std.proofs.lemmas.Bool.Decides.{eqb_tells}
 use Rattle.std.proofs.lemmas.Option.{same_Some}
 use Rattle.hv_word.specs.Storage.{page_count, word_at}
 use Rattle.hv_cpu.specs.Regs.{Regs}
-use Rattle.hv_cpu.specs.Lines.{lines, unlined, lined_of, lines_mask}
+use Rattle.hv_cpu.specs.Lines.{lines, unlined, lined_of}
+use Rattle.hv_limits.specs.Limits.{lines_mask}
 use Rattle.hv_block.specs.Block.{regs_at}
 use Rattle.hv_store.specs.Access.{identity}
 use Rattle.hv_map.specs.Item.{Item}

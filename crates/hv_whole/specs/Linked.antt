@@ -11,7 +11,8 @@ use Rattle.hv_store.specs.Access.{identity}
 use Rattle.hv_block.specs.Block.{IsOther}
 use Rattle.hv_map.specs.Item.{Item}
 use Rattle.hv_map.specs.Compose.{reading}
-use Rattle.hv_map.specs.Chain.{along, depth_limit}
+use Rattle.hv_map.specs.Chain.{along}
+use Rattle.hv_limits.specs.Limits.{depth_limit}
 use Rattle.hv_map.specs.Words.{Chained, EachChain}
 use Rattle.hv_map.specs.Carried.{Opens}
 use Rattle.hv_nest.specs.State.{State}

@@ -3,11 +3,11 @@
 use Rattle.std.specs.Prelude.{◌≡◌, ℕ, ◌<◌, ◌≤◌, ◌*◌, false, true, List, [], ◌∷◌, length, Option, Some, None, slice_get, bit_and}
 use Rattle.hv_word.specs.Storage.{page_count}
 use Rattle.hv_cpu.specs.Regs.{Regs, reset_regs}
-use Rattle.hv_cpu.specs.Lines.{lines_mask}
+use Rattle.hv_limits.specs.Limits.{lines_mask, depth_limit}
 use Rattle.hv_store.specs.declared.access.Slot.{Slot}
 use Rattle.hv_block.specs.Block.{regs_at}
 use Rattle.hv_map.specs.Item.{Item}
-use Rattle.hv_map.specs.Chain.{depth_limit, map_along, pin_of}
+use Rattle.hv_map.specs.Chain.{map_along, pin_of}
 use Rattle.hv_map.specs.Apart.{is_apart}
 use Rattle.hv_map.specs.Carried.{Agree}
 use Rattle.hv_map.specs.Seen.{seen}

@@ -1,7 +1,7 @@
 use Rattle.std.proofs.Common.{◌≡◌, ◌≢◌, ℕ, ◌≤◌, List, [], Some, length, map, string_bytes, subst, inl, inr, arith}
 use Rattle.std.specs.Io.KnownBytes.{Appends}
 use Rattle.std.proofs.lemmas.Result.{IfOk-from_err, IfOk-at_ok}
-use Rattle.hv_io.specs.declared.TheConstants.{INPUT_LIMIT}
+use Rattle.hv_limits.specs.Limits.{input_limit}
 use Rattle.hv_words.specs.Table.{command_of}
 use Rattle.hv_top.specs.Commands.{output_of}
 use Rattle.hv_top.specs.Output.{IsAnswer, IsRefusalAnd, IsTextAnd}
@@ -27,7 +27,7 @@ returns-clause-complete c =
     let appends = Appends (Some sink.held) (Some c.virtualize.new.sink.held) in
     of_input words c.args.source.now
     (λ command input.
-    length input ≤ INPUT_LIMIT
+    length input ≤ input_limit
     → sink.fails ≡ []
     → HasRoom sink command input
     → IsAnswer (output_of command input) status)
@@ -36,7 +36,7 @@ returns-clause-complete c =
     (λ usage. IfOk-at_ok (λ _. ⊥) named (IfOk-from_err words (λ _. ⊥) (told.usage.0 usage)))
     (λ long.
     elim there [
-      | inl all ↦ omega (arith, told.longer long, subst (λ (input : List ℕ). length input ≤ INPUT_LIMIT) all.1 short)
+      | inl all ↦ omega (arith, told.longer long, subst (λ (input : List ℕ). length input ≤ input_limit) all.1 short)
       | inr none ↦ (told.unblamed none).0 long
     ])
     (λ fault. omega (arith, told.read fault))

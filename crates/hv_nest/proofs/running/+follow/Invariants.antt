@@ -1,5 +1,5 @@
 use Rattle.std.proofs.Common.{◌-◌, length}
-use Rattle.hv_map.specs.Chain.{depth_limit}
+use Rattle.hv_limits.specs.Limits.{depth_limit}
 use Rattle.hv_nest.proofs.running.+follow.Given as goal
 
 abbrev pub decreases-follow : goal.decreases-follow

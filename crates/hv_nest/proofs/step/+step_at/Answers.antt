@@ -1,6 +1,7 @@
 -- Each way out is a row of a step.
 use Rattle.std.proofs.Common.{ℕ, ◌<◌, List, length, ap, ◌∙◌, sym, arith}
-use Rattle.hv_map.specs.Chain.{depth_limit, map_along}
+use Rattle.hv_map.specs.Chain.{map_along}
+use Rattle.hv_limits.specs.Limits.{depth_limit}
 use Rattle.hv_nest.specs.Step.{interrupted, put_back, told, malformed}
 use Rattle.hv_nest.specs.Notes.{undone}
 use Rattle.hv_nest.proofs.Follows.{child_regs}

@@ -1,7 +1,7 @@
 -- The first of as many equal harts.
 use Rattle.std.proofs.lemmas.List.{take-replicate}
 use Rattle.hv_cpu.specs.Regs.{reset_regs}
-use Rattle.hv_nest.specs.State.{harts_limit}
+use Rattle.hv_limits.specs.Limits.{harts_limit}
 use Rattle.hv_nest.proofs.harts.Harts.new.Goals as goal
 use Rattle.std.proofs.Common.{ap, ◌∙◌, replicate, take}
 use Rattle.hv_cpu.specs.Regs.{Regs}

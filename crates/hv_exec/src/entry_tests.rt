@@ -32,9 +32,9 @@ fn entered(alloc: Global, mode: Mode, value: u32) -> Result<(Cpu, [u32; 5]), All
     }
     let mut cpu = Cpu {
         mode,
-        x5: value,
         ..reset()
     };
+    cpu.set_x(5, value);
     let _ = act(&mut cpu, 0, &mut store);
     let mut words = [0; 5];
     for k in 0..5u32 {

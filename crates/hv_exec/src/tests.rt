@@ -45,8 +45,16 @@ fn one(rt: &impl Abort, alloc: Global, cpu: Cpu, word: u32) -> Result<Cpu, Alloc
     Ok(after(rt, cpu, &mut store, 1))
 }
 
+// A hart with two values in x1 and x2.
+fn holding(a: u32, b: u32) -> Cpu {
+    let mut cpu = reset();
+    cpu.set_x(1, a);
+    cpu.set_x(2, b);
+    cpu
+}
+
 #[test]
-fn computes(rt: HostRuntime) -> Result<(), Fail> {
+fn arithmetic_gives_the_manuals_results(rt: HostRuntime) -> Result<(), Fail> {
     let minus = 0x8000_0010;
     for (word, a, b, want) in [
         (0x0020_81B3, 0xFFFF_FFFF, 2, 1),
@@ -68,17 +76,14 @@ fn computes(rt: HostRuntime) -> Result<(), Fail> {
         (0x1234_51B7, 0, 0, 0x1234_5000),
         (0xFFFF_F197, 0, 0, 0xFFFF_F000),
     ] {
-        let mut cpu = reset();
-        cpu.set_x(1, a);
-        cpu.set_x(2, b);
-        let cpu = one(&rt, rt.alloc(), cpu, word)?;
+        let cpu = one(&rt, rt.alloc(), holding(a, b), word)?;
         assert_eq!(rt; (cpu.x(3), cpu.pc), (want, 4), "{word:x}");
     }
     Ok(())
 }
 
 #[test]
-fn jumps(rt: HostRuntime) -> Result<(), Fail> {
+fn branches_and_jumps_choose_the_next_instruction(rt: HostRuntime) -> Result<(), Fail> {
     // beq, bne, blt, bge, bltu and bgeu of x1 and x2, 8 on; jalr x1, 5(x1); jal x1, -4
     for (word, a, b, pc, x1) in [
         (0x0020_8463, 7, 7, 8, 7),
@@ -90,17 +95,14 @@ fn jumps(rt: HostRuntime) -> Result<(), Fail> {
         (0x0050_80E7, 0x103, 0, 0x108, 4),
         (0xFFDF_F0EF, 0, 0, 0xFFFF_FFFC, 4),
     ] {
-        let mut cpu = reset();
-        cpu.set_x(1, a);
-        cpu.set_x(2, b);
-        let cpu = one(&rt, rt.alloc(), cpu, word)?;
+        let cpu = one(&rt, rt.alloc(), holding(a, b), word)?;
         assert_eq!(rt; (cpu.pc, cpu.x(1)), (pc, x1), "{word:x}");
     }
     Ok(())
 }
 
 #[test]
-fn moves_bytes_and_halves(rt: HostRuntime) -> Result<(), Fail> {
+fn loads_extend_bytes_and_halves(rt: HostRuntime) -> Result<(), Fail> {
     let mut store = storage(
         rt.alloc(),
         &[0xFFF0_0093, 0x0410_0123, 0x0420_5103, 0x0420_0183],
@@ -145,7 +147,7 @@ fn stores_up_to_the_end_of_storage(rt: HostRuntime) -> Result<(), Fail> {
 }
 
 #[test]
-fn traps(rt: HostRuntime) -> Result<(), Fail> {
+fn each_exception_tells_its_cause_and_value(rt: HostRuntime) -> Result<(), Fail> {
     // with TVM, TW and TSR set
     for (word, mode, cause, tval) in [
         (0x0000_0073, Mode::U, 8, 0),
@@ -200,7 +202,7 @@ fn page_faults_are_traps_of_the_guest(rt: HostRuntime) -> Result<(), Fail> {
 }
 
 #[test]
-fn reads_without_writing(rt: HostRuntime) -> Result<(), Fail> {
+fn fences_and_waits_in_m_only_go_on(rt: HostRuntime) -> Result<(), Fail> {
     // csrrs x3, mhartid, x0; wfi and sfence.vma in M, where TW and TVM don't count; fence; fence.i
     let words = [
         0xF140_21F3,

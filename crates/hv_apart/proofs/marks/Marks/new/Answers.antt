@@ -6,4 +6,4 @@ use Rattle.hv_apart.proofs.marks.Marks.new.Goals as goal
 
 pub returns : goal.returns
 unfolding are_distinct
-returns c = record { set = marks_none 512; apart = refl }
+returns c = record { set = marks_none _; apart = refl }

@@ -1,5 +1,6 @@
 -- Nothing of a hart is lost where it is seen as 50 words: what it is made of comes back.
-use Rattle.std.proofs.Common.{◌≡◌, ◌≢◌, ℕ, zero, suc, List, [], ◌∷◌, length, get_or, Option, None, Some, refl, sym, ap, ◌∙◌}
+use Rattle.std.proofs.Common.{◌≡◌, ◌≢◌, ℕ, zero, suc, List, [], ◌∷◌, length, get_or, Option, None, Some}
+use Rattle.std.proofs.Common.{refl, sym, ap, ◌∙◌}
 use Rattle.hv_cpu.specs.declared.Cpu.TheInside.{Inside}
 use Rattle.hv_cpu.specs.declared.Mode.{Mode}
 use Rattle.hv_cpu.specs.declared.Mode.TheVariants.{U, S, M}

@@ -5,8 +5,8 @@ use Rattle.hv_isa.specs.Csrs.{csr_name_of, csr_number_of}
 use Rattle.hv_csr.specs.declared.csr.Csr.{Csr}
 use Rattle.hv_csr.specs.Table.{row_of, csr_of}
 
--- the name of the machine's register with a number is the name that the assembler has for it; where one has none, neither
--- has the other
+-- the name of the machine's register with a number is the name that the assembler has for the number; where one has
+-- none, neither has the other
 abbrev pub NameLaw : Type 0
 NameLaw = (number : ℕ) → option_map (λ csr. (row_of csr).name) (csr_of number) ≡ csr_name_of number
 

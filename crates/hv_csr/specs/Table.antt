@@ -6,9 +6,10 @@ use Rattle.hv_word.specs.Words.{field_of, field_put}
 use Rattle.hv_cpu.specs.Masks.{mstatus_mask, medeleg_mask, mideleg_mask, interrupt_mask, satp_mask}
 use Rattle.hv_cpu.specs.Regs.{Regs}
 use Rattle.hv_csr.specs.declared.csr.Csr.{Csr}
-use Rattle.hv_csr.specs.declared.csr.Csr.TheVariants.{Sstatus, Sie, Stvec, Scounteren, Sscratch, Sepc, Scause, Stval, Sip}
-use Rattle.hv_csr.specs.declared.csr.Csr.TheVariants.{Satp, Mstatus, Misa, Medeleg, Mideleg, Mie, Mtvec, Mcounteren}
-use Rattle.hv_csr.specs.declared.csr.Csr.TheVariants.{Mstatush, Mscratch, Mepc, Mcause, Mtval, Mip, Mvendorid, Marchid, Mimpid, Mhartid}
+use Rattle.hv_csr.specs.declared.csr.Csr.TheVariants.{Sstatus, Sie, Stvec, Scounteren, Sscratch, Sepc, Scause, Stval}
+use Rattle.hv_csr.specs.declared.csr.Csr.TheVariants.{Sip, Satp, Mstatus, Misa, Medeleg, Mideleg, Mie, Mtvec}
+use Rattle.hv_csr.specs.declared.csr.Csr.TheVariants.{Mcounteren, Mstatush, Mscratch, Mepc, Mcause, Mtval, Mip}
+use Rattle.hv_csr.specs.declared.csr.Csr.TheVariants.{Mvendorid, Marchid, Mimpid, Mhartid}
 
 -- the bits of mstatus that S sees: SIE 1, SPIE 5, SPP 8, SUM 18, MXR 19 (section 4.1.1)
 abbrev pub sstatus_mask : ℕ

@@ -12,6 +12,7 @@ use hv_word::field;
 /// The number of the interrupt to take: the most urgent that isn't delegated, else the most urgent
 /// delegated one, of those that are pending, enabled, and not held back by the mode. None where there
 /// is none.
+#[inline(always)]
 pub fn pending(cpu: &Cpu) -> Option<u32>
     ensures takes { result ≡ pending_of cpu.now }
     ensures within { IfSome result (λ k. k < 16) }

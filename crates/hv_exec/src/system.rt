@@ -6,15 +6,11 @@ ghost use Rattle.hv_exec.specs.Answer.{answered, KeepsUnlessDone, IsInRange};
 ghost use Rattle.hv_exec.specs.System.{new_value, csr_row, returned, may_wait, may_fence, called, entering};
 
 use crate::answer::{Task, give, illegal};
+use hv_cpu::mstatus::{TVM, TW};
 use hv_cpu::{Cpu, Mode};
 use hv_csr::{csr_read, csr_write};
 use hv_isa::Instr;
 use hv_word::field;
-
-// Bits of mstatus: S can't reach address translation, and modes below M can't wait.
-const TVM: u32 = 20;
-
-const TW: u32 = 21;
 
 /// What a CSR row does to the register: it replaces it, or sets or clears the bits of its source.
 #[derive(Clone, Copy)]

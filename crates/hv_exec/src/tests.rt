@@ -3,18 +3,12 @@
 ghost use Rattle.std.specs.Prelude.{◌<◌};
 
 use super::*;
+use hv_cpu::mstatus::{MPRV, TSR, TVM, TW};
 use hv_cpu::{Cpu, Mode, reset};
 use hv_store::Store;
 use std::alloc::{AllocError, Global};
 use std::process::Abort;
 use std::test::Fail;
-
-// Bits of mstatus: TVM, TW and TSR.
-const TVM: u32 = 1 << 20;
-
-const TW: u32 = 1 << 21;
-
-const TSR: u32 = 1 << 22;
 
 // A storage of four pages that begins with some words.
 fn storage(alloc: Global, words: &[u32]) -> Result<Store, AllocError> {
@@ -171,7 +165,7 @@ fn each_exception_tells_its_cause_and_value(rt: HostRuntime) -> Result<(), Fail>
     ] {
         let cpu = Cpu {
             mode,
-            mstatus: TVM | TW | TSR,
+            mstatus: (1 << TVM) | (1 << TW) | (1 << TSR),
             ..reset()
         };
         let cpu = one(&rt, rt.alloc(), cpu, word)?;
@@ -185,9 +179,9 @@ fn page_faults_are_traps_of_the_guest(rt: HostRuntime) -> Result<(), Fail> {
     // a fetch in S; and in M a load with the mode of MPP, which is U, and a misaligned one, which isn't walked
     for (word, mode, mstatus, cause, tval) in [
         (0x1240_2183, Mode::S, 0, 12, 0),
-        (0x1240_2183, Mode::M, 1 << 17, 13, 0x124),
-        (0x1240_2223, Mode::M, 1 << 17, 15, 0x124),
-        (0x1250_1183, Mode::M, 1 << 17, 4, 0x125),
+        (0x1240_2183, Mode::M, 1 << MPRV, 13, 0x124),
+        (0x1240_2223, Mode::M, 1 << MPRV, 15, 0x124),
+        (0x1250_1183, Mode::M, 1 << MPRV, 4, 0x125),
     ] {
         let cpu = Cpu {
             mode,
@@ -213,7 +207,7 @@ fn fences_and_waits_in_m_only_go_on(rt: HostRuntime) -> Result<(), Fail> {
     ];
     let mut store = storage(rt.alloc(), &words)?;
     let cpu = Cpu {
-        mstatus: TW | TVM,
+        mstatus: (1 << TVM) | (1 << TW),
         ..reset()
     };
     let cpu = after(&rt, cpu, &mut store, 5);

@@ -1,5 +1,5 @@
 -- Which bare pages a machine stands on, and whether they are all different.
-use Rattle.std.specs.Prelude.{ℕ, ◌+◌, ◌*◌, ◌/◌, Bool, true, false, not, ◌&&◌, ◌||◌, ◌==◌, if◌then◌else◌, List, [], ◌∷◌}
+use Rattle.std.specs.Prelude.{ℕ, ◌+◌, ◌*◌, ◌/◌, Bool, true, not, ◌&&◌, ◌==◌, if◌then◌else◌, List, [], ◌∷◌}
 use Rattle.std.specs.Prelude.{◌++◌, map, Option, Some, None}
 use Rattle.std.specs.List.{range_with_len, flat_map, list_any}
 use Rattle.hv_word.specs.Storage.{page_count}

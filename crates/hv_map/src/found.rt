@@ -3,7 +3,8 @@
 ghost use Rattle.std.specs.Prelude.{◌≡◌, ◌<◌, Some, length};
 ghost use Rattle.hv_word.specs.Storage.{page_count};
 ghost use Rattle.hv_map.specs.Chain.{map_along};
-ghost use Rattle.hv_map.specs.Found.{found_on, IsFoundWithin};
+ghost use Rattle.hv_map.specs.Found.{found_on, found_through, IsFoundWithin};
+ghost use Rattle.hv_map.specs.Levels.{IsWayWithin};
 
 use crate::chain::Chain;
 use crate::lookup::page_slot;
@@ -28,7 +29,18 @@ pub fn child(store: &Store, chain: &Chain, page: u32) -> Found
     ensures found { Some result ≡ found_on store.now (map_along store.now chain.now) page }
     ensures within { IsFoundWithin (page_count store.now) (length chain.now) result }
 {
-    match page_slot(store, chain, page).write {
+    through(store, chain, page_slot(store, chain, page).write)
+}
+
+// What is found through a way of the last machine of a chain for writing.
+pub(crate) fn through(store: &Store, chain: &Chain, way: Way) -> Found
+    requires { IsWayWithin (page_count store.now) (length chain.now) way }
+    ensures found { result ≡ found_through store.now way }
+    ensures within { IsFoundWithin (page_count store.now) (length chain.now) result }
+{
+    // The level is below the chain's length.
+    let _level = chain.len();
+    match way {
         Way::Open { host } => match read_block(store, host) {
             Some(block) => Found::Child { host, block },
             None => Found::Malformed { host },

@@ -232,7 +232,7 @@ fn look_at<L: Ledger>(
 }
 
 // A directory or table word, where it is present.
-fn present(level: u32, page: u32, word: u32) -> Result<u32, Way>
+pub(crate) fn present(level: u32, page: u32, word: u32) -> Result<u32, Way>
     ensures word { looked result ≡ present level page word }
     ensures shut { IfErr result (λ way. way ≡ Shut level 1 page None) }
 {
@@ -243,7 +243,7 @@ fn present(level: u32, page: u32, word: u32) -> Result<u32, Way>
 }
 
 // A way that the machine at a level shuts for its child's page.
-fn shut(level: u32, cause: u32, page: u32) -> Way
+pub(crate) fn shut(level: u32, cause: u32, page: u32) -> Way
     ensures { result ≡ Shut level cause page None }
 {
     Way::Shut {
@@ -255,7 +255,7 @@ fn shut(level: u32, cause: u32, page: u32) -> Way
 }
 
 // One way for every access.
-fn every(way: Way) -> Slot
+pub(crate) fn every(way: Way) -> Slot
     ensures { result ≡ every way }
 {
     Slot {
@@ -266,7 +266,7 @@ fn every(way: Way) -> Slot
 }
 
 // What an entry of a child's table leaves of the slot of the page that it names.
-fn granted(level: u32, version: u32, page: u32, entry: u32, slot: Slot) -> Slot
+pub(crate) fn granted(level: u32, version: u32, page: u32, entry: u32, slot: Slot) -> Slot
     ensures { result ≡ granted level version page entry slot }
 {
     Slot {

@@ -6,18 +6,18 @@ use Rattle.hv_nest.specs.Move.{Move}
 use Rattle.hv_run.specs.Promises.{AreBareRuns, AreRouted}
 use Rattle.hv_run.specs.Record.{Told, WatchOf, record_of}
 use Rattle.hv_run.specs.Stands.{watches_of}
-use Rattle.hv_top.specs.Run.{IsKept, state_of}
+use Rattle.hv_top.specs.Run.{PlayIsPromised, state_of}
 use Rattle.hv_top.proofs.Shown.{shown}
 
-pub kept : (start : Start) (all : List Move) (plain : State) (moves : List Move) (ws : List WatchOf) (t : Told)
+pub promised : (start : Start) (all : List Move) (plain : State) (moves : List Move) (ws : List WatchOf) (t : Told)
     → plain ≡ state_of start
     → moves ≡ all
     → ws ≡ watches_of start.plan.watches
     → t ≡ record_of plain moves ws
     → AreBareRuns plain moves ws
     → AreRouted plain moves t.kept
-    → IsKept all start
-kept start all plain moves ws t begun same watched told guests routed =
+    → PlayIsPromised all start
+promised start all plain moves ws t begun same watched told guests routed =
     let watches : List WatchOf = watches_of start.plan.watches in
     let bare : AreBareRuns (state_of start) all watches =
     subst (λ (st : State). AreBareRuns st all watches) begun

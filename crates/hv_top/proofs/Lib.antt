@@ -1,5 +1,5 @@
 pub mod Inputs
-pub mod Kept
+pub mod Promised
 pub mod Lines
 pub mod Events
 pub mod Played

@@ -10,7 +10,7 @@ use Rattle.hv_top.specs.Check.{check_output}
 use Rattle.hv_top.specs.Debug.{debug_output}
 use Rattle.hv_top.specs.Dis.{dis_output}
 use Rattle.hv_top.specs.Gen.{gen_output}
-use Rattle.hv_top.specs.Run.{run_output, JobIsKept, TextIsKept}
+use Rattle.hv_top.specs.Run.{run_output, JobIsPromised, TextIsPromised}
 
 -- what is written for an input
 unfoldable pub output_of : Command → List ℕ → Output
@@ -46,9 +46,9 @@ OnInput command left P = OnReadInput (reads_input command) left P
 
 -- what is promised of the machines that a command plays
 unfoldable pub IsPromised : Command → List ℕ → Type 0
-IsPromised (Run plain) input = TextIsKept input
-IsPromised Check input = TextIsKept input
+IsPromised (Run plain) input = TextIsPromised input
+IsPromised Check input = TextIsPromised input
 IsPromised Asm input = Unit {0}
 IsPromised Dis input = Unit {0}
 IsPromised Debug input = Unit {0}
-IsPromised (Gen number) input = JobIsKept (gen_job_of number)
+IsPromised (Gen number) input = JobIsPromised (gen_job_of number)

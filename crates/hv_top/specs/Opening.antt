@@ -12,7 +12,7 @@ use Rattle.hv_top.specs.declared.opening.Opening.TheVariants.{Ready, Refused}
 use Rattle.hv_top.specs.Answer.{output_in}
 use Rattle.hv_top.specs.Jobs.{started_output, told_output}
 use Rattle.hv_top.specs.Output.{Output}
-use Rattle.hv_top.specs.Run.{JobIsKept, TextIsKept}
+use Rattle.hv_top.specs.Run.{JobIsPromised, TextIsPromised}
 
 -- the job is built to this start
 pub record IsBuilt (job : Job) (start : Start) : Type 0 where
@@ -27,9 +27,9 @@ IsWritten answer output = (tell : Job → Start → List ℕ) → output_in answ
 -- the job with its start; or the refusal of it, with which nothing is promised
 abbrev pub IsStarting : Job → Opening → Type 0
 IsStarting job (Ready own start) = (own ≡ job) × IsBuilt job start
-IsStarting job (Refused answer) = IsWritten answer (λ tell. started_output tell job) × JobIsKept job
+IsStarting job (Refused answer) = IsWritten answer (λ tell. started_output tell job) × JobIsPromised job
 
 -- the job that a text is with its start; or the refusal of the text, with which nothing is promised
 abbrev pub IsOpening : List ℕ → Opening → Type 0
 IsOpening text (Ready job start) = (job_of text ≡ Ok job) × IsBuilt job start
-IsOpening text (Refused answer) = IsWritten answer (λ tell. told_output tell text) × TextIsKept text
+IsOpening text (Refused answer) = IsWritten answer (λ tell. told_output tell text) × TextIsPromised text

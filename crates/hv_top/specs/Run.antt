@@ -36,23 +36,23 @@ run_output text = told_output report_on text
 -- What is promised of a start that is played by these moves: a watched machine that stands apart at the start is at each
 -- moment, up to the first touch, a bare machine that runs alone, and the program shows it; and each fault that is told reached
 -- the first level that refuses.
-pub record IsKept (moves : List Move) (start : Start) : Type 0 where
+pub record PlayIsPromised (moves : List Move) (start : Start) : Type 0 where
   pub guests : AreBareRuns (state_of start) moves (watches_of start.plan.watches)
   pub shown : AreShown (state_of start) moves (watches_of start.plan.watches)
   pub routed : AreRouted (state_of start) moves (told_of moves start).kept
 
-abbrev pub IsKeptOf : List Move → Result Start (ℕ × BuildKind) → Type 0
-IsKeptOf moves (Ok start) = IsKept moves start
-IsKeptOf moves (Err refusal) = Unit {0}
+abbrev pub StartIsPromised : List Move → Result Start (ℕ × BuildKind) → Type 0
+StartIsPromised moves (Ok start) = PlayIsPromised moves start
+StartIsPromised moves (Err refusal) = Unit {0}
 
 -- the same of a job, if it can be built
-unfoldable pub JobIsKept : Job → Type 0
-JobIsKept job = IsKeptOf (schedule job.recording) (build_of job)
+unfoldable pub JobIsPromised : Job → Type 0
+JobIsPromised job = StartIsPromised (schedule job.recording) (build_of job)
 
-abbrev pub ParsedIsKept : Result Job (ℕ × JobKind) → Type 0
-ParsedIsKept (Ok job) = JobIsKept job
-ParsedIsKept (Err refusal) = Unit {0}
+abbrev pub ParsedIsPromised : Result Job (ℕ × JobKind) → Type 0
+ParsedIsPromised (Ok job) = JobIsPromised job
+ParsedIsPromised (Err refusal) = Unit {0}
 
 -- the same of a text, if it is a job
-unfoldable pub TextIsKept : List ℕ → Type 0
-TextIsKept text = ParsedIsKept (job_of text)
+unfoldable pub TextIsPromised : List ℕ → Type 0
+TextIsPromised text = ParsedIsPromised (job_of text)

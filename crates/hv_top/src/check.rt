@@ -14,7 +14,7 @@ ghost use Rattle.hv_report.specs.Check.{checked_watch, checked_watches, twin_wor
 ghost use Rattle.hv_run.specs.Record.{schedule};
 ghost use Rattle.hv_top.specs.Answer.{output_in};
 ghost use Rattle.hv_top.specs.Check.{IsRow, check_on, check_output, start_state};
-ghost use Rattle.hv_top.specs.Run.{IsKept, TextIsKept, state_of};
+ghost use Rattle.hv_top.specs.Run.{PlayIsPromised, TextIsPromised, state_of};
 ghost use Rattle.hv_word.specs.Storage.{page_count};
 
 use crate::answer::{Answer, written};
@@ -33,11 +33,11 @@ use std::alloc::{AllocError, Global};
 
 /// For each watch of a job the bare machine that began with what the watched one saw, and ran alone; or the refusal of the
 /// first line that is refused: in its text, or else when it is built.
-#[tactic(auto, unfolding(crate::specs::Check::check_output, crate::specs::Run::TextIsKept, crate::specs::Run::JobIsKept))]
+#[tactic(auto, unfolding(crate::specs::Check::check_output, crate::specs::Run::TextIsPromised, crate::specs::Run::JobIsPromised))]
 pub fn checked(alloc: Global, input: &[u8]) -> Result<Answer, AllocError>
     requires { length input.now ≤ input_limit }
     ensures output { IfOk result (λ answer. output_in answer ≡ check_output input.now) }
-    ensures kept { OnOk result (TextIsKept input.now) }
+    ensures promised { OnOk result (TextIsPromised input.now) }
 {
     match opened(alloc, input)? {
         Opening::Ready { job, start } => Ok(written(compared(alloc, &job, start)?)),
@@ -52,7 +52,7 @@ fn compared(alloc: Global, job: &Job, start: Start) -> Result<Vec<u8>, AllocErro
     requires built { build_of job.now ≡ Ok start }
     requires ready { IsReady job.now start }
     ensures text { IfOk result (λ text. text.items ≡ check_on job.now start) }
-    ensures kept { OnOk result (IsKept (schedule job.now.recording) start) }
+    ensures promised { OnOk result (PlayIsPromised (schedule job.now.recording) start) }
 {
     // What was played is let go: each bare machine begins with the job, built anew.
     let record = play_out(alloc, job, start)?.record;

@@ -8,7 +8,7 @@ ghost use Rattle.hv_load.specs.Ready.{IsReady};
 ghost use Rattle.hv_run.specs.Record.{schedule};
 ghost use Rattle.hv_top.specs.Answer.{output_in};
 ghost use Rattle.hv_top.specs.Gen.{gen_output, summary_on};
-ghost use Rattle.hv_top.specs.Run.{IsKept, JobIsKept};
+ghost use Rattle.hv_top.specs.Run.{PlayIsPromised, JobIsPromised};
 
 use crate::answer::{Answer, written};
 use crate::playing::play_out;
@@ -18,11 +18,11 @@ use hv_report::summary;
 use std::alloc::{AllocError, Global};
 
 /// The summary of the job of a number, which is built and played to the end of its schedule.
-#[tactic(auto, unfolding(crate::specs::Gen::gen_output, crate::specs::Run::JobIsKept))]
+#[tactic(auto, unfolding(crate::specs::Gen::gen_output, crate::specs::Run::JobIsPromised))]
 pub fn generated(alloc: Global, number: u32) -> Result<Answer, AllocError>
     ensures output { IfOk result (λ answer. output_in answer ≡ gen_output number) }
     ensures accepted { IfOk result (λ answer. answer.refused ≡ false) }
-    ensures kept { OnOk result (JobIsKept (gen_job_of number)) }
+    ensures promised { OnOk result (JobIsPromised (gen_job_of number)) }
 {
     let job = gen_job(alloc, number)?;
     match build(alloc, &job) {
@@ -42,7 +42,7 @@ fn summed(alloc: Global, number: u32, job: &Job, start: Start) -> Result<Vec<u8>
     requires built { build_of job.now ≡ Ok start }
     requires ready { IsReady job.now start }
     ensures text { IfOk result (λ text. text.items ≡ summary_on number job.now start) }
-    ensures kept { OnOk result (IsKept (schedule job.now.recording) start) }
+    ensures promised { OnOk result (PlayIsPromised (schedule job.now.recording) start) }
 {
     let mut end = play_out(alloc, job, start)?;
     summary(alloc, &mut end.plain, &end.record, number, number % 9)

@@ -18,10 +18,6 @@ mod dis;
 mod generating;
 mod opening;
 mod playing;
-#[cfg(test)]
-mod refusals;
-#[cfg(test)]
-mod rows;
 mod running;
 #[cfg(test)]
 mod tests;

@@ -20,7 +20,7 @@ pub enum Opening {
 
 /// The job that a text is and its start, or the refusal of the first line that is refused: in the text, or else when the job
 /// is built.
-#[tactic(auto, unfolding(crate::specs::Run::TextIsKept))]
+#[tactic(auto, unfolding(crate::specs::Run::TextIsPromised))]
 pub fn opened(alloc: Global, input: &[u8]) -> Result<Opening, AllocError>
     requires { length input.now ≤ input_limit }
     ensures { IfOk result (IsOpening input.now) }
@@ -36,7 +36,7 @@ pub fn opened(alloc: Global, input: &[u8]) -> Result<Opening, AllocError>
 }
 
 // A job and its start, or the refusal of the first line that can't be built.
-#[tactic(auto, unfolding(crate::specs::Run::JobIsKept))]
+#[tactic(auto, unfolding(crate::specs::Run::JobIsPromised))]
 fn started(alloc: Global, job: Job) -> Result<Opening, AllocError>
     requires { IsJob job }
     ensures { IfOk result (IsStarting job) }

@@ -8,7 +8,7 @@ ghost use Rattle.hv_nest.specs.Move.{last_of};
 ghost use Rattle.hv_report.specs.Report.{AreThere};
 ghost use Rattle.hv_run.specs.Record.{schedule};
 ghost use Rattle.hv_top.specs.Check.{IsRow};
-ghost use Rattle.hv_top.specs.Run.{IsKept, state_of, told_of};
+ghost use Rattle.hv_top.specs.Run.{PlayIsPromised, state_of, told_of};
 
 use hv_job::Job;
 use hv_load::{Plan, Start};
@@ -34,7 +34,7 @@ pub fn play_out(alloc: Global, job: &Job, start: Start) -> Result<Ending, AllocE
     ensures told { IfOk result (λ end. end.record ≡ told_of (schedule job.now.recording) start) }
     ensures there { IfOk result (λ end. AreThere end.plain (end.record).watches) }
     ensures rows { IfOk result (λ end. All (IsRow (state_of start)) (end.record).watches) }
-    ensures kept { OnOk result (IsKept (schedule job.now.recording) start) }
+    ensures promised { OnOk result (PlayIsPromised (schedule job.now.recording) start) }
 {
     let Start { store, harts, plan } = start;
     let mut plain = Plain::new(store, harts);

@@ -7,7 +7,7 @@ ghost use Rattle.hv_load.specs.Build.{build_of};
 ghost use Rattle.hv_load.specs.Ready.{IsReady};
 ghost use Rattle.hv_run.specs.Record.{schedule};
 ghost use Rattle.hv_top.specs.Answer.{output_in};
-ghost use Rattle.hv_top.specs.Run.{IsKept, TextIsKept, report_on, run_output};
+ghost use Rattle.hv_top.specs.Run.{PlayIsPromised, TextIsPromised, report_on, run_output};
 
 use crate::answer::{Answer, written};
 use crate::opening::{Opening, opened};
@@ -18,11 +18,11 @@ use hv_report::report;
 use std::alloc::{AllocError, Global};
 
 /// The report on a job, or the refusal of the first line that is refused: in its text, or else when it is built.
-#[tactic(auto, unfolding(crate::specs::Run::run_output, crate::specs::Run::TextIsKept, crate::specs::Run::JobIsKept))]
+#[tactic(auto, unfolding(crate::specs::Run::run_output, crate::specs::Run::TextIsPromised, crate::specs::Run::JobIsPromised))]
 pub fn reported(alloc: Global, input: &[u8]) -> Result<Answer, AllocError>
     requires { length input.now ≤ input_limit }
     ensures output { IfOk result (λ answer. output_in answer ≡ run_output input.now) }
-    ensures kept { OnOk result (TextIsKept input.now) }
+    ensures promised { OnOk result (TextIsPromised input.now) }
 {
     match opened(alloc, input)? {
         Opening::Ready { job, start } => Ok(written(told(alloc, &job, start)?)),
@@ -36,7 +36,7 @@ fn told(alloc: Global, job: &Job, start: Start) -> Result<Vec<u8>, AllocError>
     requires built { build_of job.now ≡ Ok start }
     requires ready { IsReady job.now start }
     ensures text { IfOk result (λ text. text.items ≡ report_on job.now start) }
-    ensures kept { OnOk result (IsKept (schedule job.now.recording) start) }
+    ensures promised { OnOk result (PlayIsPromised (schedule job.now.recording) start) }
 {
     let mut end = play_out(alloc, job, start)?;
     report(alloc, &mut end.plain, &end.record, &end.plan)

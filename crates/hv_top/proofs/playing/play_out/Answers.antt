@@ -18,7 +18,7 @@ use Rattle.hv_top.proofs.Events.{own_events}
 use Rattle.hv_top.proofs.Started.{watchable, none_next}
 use Rattle.hv_top.proofs.Played.{there}
 use Rattle.hv_top.proofs.Told.{rows, steps_scheduled}
-use Rattle.hv_top.proofs.Kept.{kept}
+use Rattle.hv_top.proofs.Promised.{promised}
 use Rattle.hv_top.proofs.playing.play_out.Goals as goal
 
 -- what is watched may be, from the state that is played
@@ -73,9 +73,9 @@ returns-clause-rows c =
     (subst (λ (t : Told). All (IsRow c.new-plain.result) t.watches) (sym c.in_ok-record.ensures.record)
     (rows c.new-plain.result (schedule c.events.result.now) few (watches_of c.as_slice.result.now) can))
 
-pub returns-clause-kept : goal.returns-clause-kept
-returns-clause-kept c =
-    kept c.args.start (schedule c.args.job.now.recording) c.new-plain.result (schedule c.events.result.now) (watches_of c.as_slice.result.now) c.in_ok-record.record
+pub returns-clause-promised : goal.returns-clause-promised
+returns-clause-promised c =
+    promised c.args.start (schedule c.args.job.now.recording) c.new-plain.result (schedule c.events.result.now) (watches_of c.as_slice.result.now) c.in_ok-record.record
     c.new-plain.ensures
     (ap (λ (events : List Event). schedule events) c.events.ensures.events)
     (ap (λ (ws : List Watch). watches_of ws) c.as_slice.ensures)

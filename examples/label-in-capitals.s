@@ -1,2 +1,0 @@
-Foo:    nop
-        j Foo

@@ -1,1 +1,0 @@
-        csrr x1, foo

@@ -1,3 +1,0 @@
-start:  li x5, 0x1000   # the block of the machine inside is on page 1
-again:  vmenter x5      # run it
-        j again         # until there is something to do, of which this monitor knows nothing

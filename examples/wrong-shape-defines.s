@@ -1,2 +1,0 @@
-        j a
-a:      nop, nop

@@ -2,6 +2,7 @@
 
 use crate::{bare_run, seen};
 use hv_cpu::reset;
+use hv_limits::PAGES;
 use hv_map::{Path, pin};
 use hv_nest::LineRow;
 use hv_store::Store;
@@ -20,14 +21,14 @@ fn lay(store: &mut Store, from: u32, words: &[u32]) {
 }
 
 // Words 3 of the first two pages that the machine with its block on page 1 sees; none where it isn't there.
-#[tactic(auto, using(hv_apart::proofs::Machines::pinned_own))]
+#[tactic(auto, using(hv_map::proofs::Machines::pinned_own))]
 fn third_words(alloc: Global, store: &Store) -> Result<Option<(u32, u32)>, AllocError> {
     let mut path = Path::new();
     path.push(1);
     let Some(chain) = pin(store, &path) else {
         return Ok(None);
     };
-    if chain.pages(store) > 16384 {
+    if chain.pages(store) > PAGES {
         return Ok(None);
     }
     let own = seen(alloc, store, &chain)?;

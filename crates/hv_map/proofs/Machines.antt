@@ -1,6 +1,5 @@
 -- The machines on a path, and the bare pages of their control blocks.
-use Rattle.std.proofs.Common.{length, ◌≡◌, ℕ, zero, suc, ◌+◌, ◌<◌, ◌≤◌, ◌^◌, List, [], ◌∷◌, Option, Some, None, refl, ap, ap₂, ◌∙◌, sym, subst, arith, slice_get, take, map}
-use Rattle.std.specs.Option.{option_and_then}
+use Rattle.std.proofs.Common.{length, ◌≡◌, ℕ, zero, suc, ◌+◌, ◌<◌, ◌≤◌, ◌^◌, List, [], ◌∷◌, Option, Some, None, refl, ap, ◌∙◌, sym, subst, arith, slice_get, take, map}
 use Rattle.std.proofs.lemmas.List.{take_all}
 use Rattle.std.proofs.lemmas.Option.{slice_get_within, same_Some}
 use Rattle.hv_word.specs.Storage.{page_count}
@@ -15,47 +14,21 @@ use Rattle.hv_block.specs.Block.{Held, block_of}
 use Rattle.hv_block.proofs.Blocks.{block_sized}
 use Rattle.hv_map.specs.Item.{Item}
 use Rattle.hv_map.specs.Compose.{compose}
-use Rattle.hv_map.specs.Chain.{child_held, child_through, child_at, child_of, option_cons, machines, pin_of}
-use Rattle.hv_map.specs.Links.{syllable_of}
+use Rattle.hv_map.specs.Chain.{child_held, child_through, child_at, child_of, machines, pin_of}
+use Rattle.hv_map.specs.Links.{syllable_of, last_block}
+use Rattle.hv_map.proofs.Assoc.{begins_with, begins_from}
 use Rattle.hv_map.proofs.Handed.{composed_opens}
-
--- the machines on a path that isn't empty: the first, and those on the rest of it
-record Split (S : List ℕ) (F : List Slot) (j s : ℕ) (path : List ℕ) (items : List Item) : Type 0 where
-  first : Item
-  others : List Item
-  found : child_of S F s ≡ Some first
-  rest : machines S (compose S F j first.pages first.table first.version) (j + 1) path ≡ Some others
-  all : items ≡ first ∷ others
-
-split : (S : List ℕ) (F : List Slot) (j s : ℕ) (path : List ℕ) (items : List Item) → machines S F j (s ∷ path) ≡ Some items → Split S F j s path items
-unfolding machines
-split S F j s path items e = from (child_of S F s) refl e
-  where
-    next : Item → Option (List Item)
-    next x = machines S (compose S F j x.pages x.table x.version) (j + 1) path
-
-    inner : (x : Item) → child_of S F s ≡ Some x → (o : Option (List Item)) → next x ≡ o → option_cons x o ≡ Some items → Split S F j s path items
-    inner x is None r h = cc
-    inner x is (Some xs) r h = record { first = x; others = xs; found = is; rest = r; all = sym (same_Some (x ∷ xs) items h) }
-
-    from : (o : Option Item) → child_of S F s ≡ o → option_and_then (λ (x : Item). option_cons x (next x)) o ≡ Some items → Split S F j s path items
-    from None is h = cc
-    from (Some x) is h = inner x is (next x) refl h
-
-no_items : (S : List ℕ) (F : List Slot) (j : ℕ) (items : List Item) → machines S F j [] ≡ Some items → items ≡ []
-unfolding machines
-no_items S F j items e = sym (same_Some [] items e)
+use Rattle.hv_map.proofs.Words.{machines_chained}
 
 -- the machines on the first part of a path are the first machines on the path
 pub machines-take : (S : List ℕ) (F : List Slot) (j : ℕ) (path : List ℕ) (items : List Item) (k : ℕ) → machines S F j path ≡ Some items → machines S F j (take k path) ≡ Some (take k items)
 unfolding machines
 machines-take S F j path items zero e = refl
-machines-take S F j [] items (suc k) e = ap (λ (xs : List Item). Some (take (suc k) xs)) (sym (no_items S F j items e))
+machines-take S F j [] items (suc k) e = ap (λ (xs : List Item). Some (take (suc k) xs)) (same_Some [] items e)
 machines-take S F j (s ∷ path) items (suc k) e =
-    let p = split S F j s path items e in
-    ap (option_and_then (λ (x : Item). option_cons x (machines S (compose S F j x.pages x.table x.version) (j + 1) (take k path)))) p.found
-    ∙ ap (option_cons p.first) (machines-take S (compose S F j p.first.pages p.first.table p.first.version) (j + 1) path p.others k p.rest)
-    ∙ ap (λ (xs : List Item). Some (take (suc k) xs)) (sym p.all)
+    let b = begins_with S F j s path items e in
+    begins_from S F j s (take k path) b.head (take k b.rest) b.child (machines-take S (compose S F j b.head.pages b.head.table b.head.version) (j + 1) path b.rest k b.others)
+    ∙ ap (λ (xs : List Item). Some (take (suc k) xs)) b.whole
 
 -- each open way of F opens a bare page below P
 abbrev OpensBelow : ℕ → List Slot → Type 0
@@ -104,62 +77,60 @@ child_fits P S F s x below e = at (slice_get F s) refl e
     at (Some slot) is h = through slot slot.write is refl h
 
 all_fit : (P : ℕ) (S : List ℕ) (F : List Slot) (j : ℕ) (path : List ℕ) (items : List Item) (i : ℕ) (x : Item) → OpensBelow P F → machines S F j path ≡ Some items → slice_get items i ≡ Some x → Fits P x
+unfolding machines
 all_fit P S F j [] items i x below e is =
-    let none : slice_get [] i ≡ Some x = sym (ap (λ (xs : List Item). slice_get xs i) (no_items S F j items e)) ∙ is in
+    let none : slice_get [] i ≡ Some x = ap (λ (xs : List Item). slice_get xs i) (same_Some [] items e) ∙ is in
     cc
 all_fit P S F j (s ∷ path) items i x below e is =
-    let p = split S F j s path items e in
-    let more : (k : ℕ) → slice_get p.others k ≡ Some x → Fits P x =
-    (λ k h. all_fit P S (compose S F j p.first.pages p.first.table p.first.version) (j + 1) path p.others k x (composed_below P S F j p.first.pages p.first.table p.first.version below) p.rest h)
+    let b = begins_with S F j s path items e in
+    let deeper = composed_below P S F j b.head.pages b.head.table b.head.version below in
+    let more : (k : ℕ) → slice_get b.rest k ≡ Some x → Fits P x =
+    (λ k h. all_fit P S (compose S F j b.head.pages b.head.table b.head.version) (j + 1) path b.rest k x deeper b.others h)
     in
-    one_of p.first p.others (child_fits P S F s p.first below p.found) more i (sym (ap (λ (xs : List Item). slice_get xs i) p.all) ∙ is)
+    one_of b.head b.rest (child_fits P S F s b.head below b.child) more i (ap (λ (xs : List Item). slice_get xs i) b.whole ∙ is)
   where
     one_of : (first : Item) (others : List Item) → Fits P first → ((k : ℕ) → slice_get others k ≡ Some x → Fits P x) → (k : ℕ) → slice_get (first ∷ others) k ≡ Some x → Fits P x
-    one_of first others b more zero h = subst (Fits P) (same_Some first x h) b
-    one_of first others b more (suc k) h = more k h
+    one_of first others fits more zero h = subst (Fits P) (same_Some first x h) fits
+    one_of first others fits more (suc k) h = more k h
 
 -- the same for the machines of a chain of the store
-pinned-take : (S : List ℕ) (items : List Item) (k : ℕ) → pin_of S (map syllable_of items) ≡ Some items → pin_of S (take k (map syllable_of items)) ≡ Some (take k items)
-unfolding pin_of
-pinned-take S items k e = machines-take S (identity (page_count S)) 0 (map syllable_of items) items k e
-
 pub pinned_first : (S : List ℕ) (items : List Item) (level i : ℕ) (whole path : List ℕ)
     → pin_of S (map syllable_of items) ≡ Some items
     → whole ≡ map syllable_of items
     → path ≡ take i (take level whole)
     → length (take level whole) ≤ i
     → pin_of S path ≡ Some (take level items)
+unfolding pin_of
 pinned_first S items level i whole path e all part end =
-    ap (pin_of S) (part ∙ take_all i (take level whole) end ∙ ap (take level) all) ∙ pinned-take S items level e
+    ap (pin_of S) (part ∙ take_all i (take level whole) end ∙ ap (take level) all)
+    ∙ machines-take S (identity (page_count S)) 0 (map syllable_of items) items level e
 
 pub pinned_fits : (S : List ℕ) (items : List Item) (i : ℕ) (x : Item) → pin_of S (map syllable_of items) ≡ Some items → slice_get items i ≡ Some x → Fits (page_count S) x
 unfolding pin_of
 pinned_fits S items i x e is =
     all_fit (page_count S) S (identity (page_count S)) 0 (map syllable_of items) items i x (identity_below (page_count S)) e is
 
--- The chain of a path is that of its own path, so what `pin` gives is a chain of the store.
-child_syllable : (S : List ℕ) (F : List Slot) (s : ℕ) (x : Item) → child_of S F s ≡ Some x → x.syllable ≡ s
-child_syllable S F s x e = at (slice_get F s) e
-  where
-    held : (g : ℕ) (o : Option Held) → child_held s g o ≡ Some x → x.syllable ≡ s
-    held g None h = cc
-    held g (Some k) h = sym (ap (λ (y : Item). y.syllable) (same_Some record { syllable = s; block = g; pages = k.pages; table = k.table; version = k.version } x h))
-
-    through : (way : Way) → child_through S s way ≡ Some x → x.syllable ≡ s
-    through (Open g) h = held g (block_of S g) h
-    through (Shut l c p w) h = cc
-
-    at : (o : Option Slot) → child_at S s o ≡ Some x → x.syllable ≡ s
-    at None h = cc
-    at (Some slot) h = through slot.write h
-
-syllables : (S : List ℕ) (F : List Slot) (j : ℕ) (path : List ℕ) (items : List Item) → machines S F j path ≡ Some items → map syllable_of items ≡ path
-syllables S F j [] items e = ap (map syllable_of) (no_items S F j items e)
-syllables S F j (s ∷ path) items e =
-    let p = split S F j s path items e in
-    ap (map syllable_of) p.all
-    ∙ ap₂ (λ (a : ℕ) (b : List ℕ). a ∷ b) (child_syllable S F s p.first p.found) (syllables S (compose S F j p.first.pages p.first.table p.first.version) (j + 1) path p.others p.rest)
-
+-- the chain of a path is that of its own path, so what `pin` gives is a chain of the store
 pub pinned_own : (S path : List ℕ) (items : List Item) → pin_of S path ≡ Some items → pin_of S (map syllable_of items) ≡ Some items
 unfolding pin_of
-pinned_own S path items e = ap (machines S (identity (page_count S)) 0) (syllables S (identity (page_count S)) 0 path items e) ∙ e
+pinned_own S path items e =
+    ap (machines S (identity (page_count S)) 0) (machines_chained S (identity (page_count S)) 0 path items e).0 ∙ e
+
+-- the last machine's block, where there is a machine
+pub last_there : (items : List Item) (n : ℕ) (x : Item) → length items ≡ n + 1 → slice_get items n ≡ Some x → Some x.block ≡ last_block items
+last_there [] n x e is = cc
+last_there (y ∷ []) zero x e is = ap (λ (o : Option Item). block_at o) (sym is)
+  where
+    block_at : Option Item → Option ℕ
+    block_at None = None
+    block_at (Some z) = Some z.block
+last_there (y ∷ []) (suc n) x e is = cc
+last_there (y ∷ (z ∷ zs)) zero x e is = absurd (omega arith)
+last_there (y ∷ (z ∷ zs)) (suc n) x e is = last_there (z ∷ zs) n x (omega arith) is
+
+pub last_none : (items : List Item) → length items ≡ 0 → None ≡ last_block items
+last_none [] e = refl
+last_none (x ∷ xs) e = absurd (omega arith)
+
+pub last_fits : (S : List ℕ) (items : List Item) (n : ℕ) (x : Item) → slice_get items n ≡ Some x → pin_of S (map syllable_of items) ≡ Some items → x.block < page_count S
+last_fits S items n x is e = (pinned_fits S items n x e is).block

@@ -21,6 +21,7 @@ use hv_word::lane_get;
 /// Executes one instruction of a hart, or takes its trap. An error is the refusal of a word that was asked for; then
 /// nothing changed. At most one of its asks writes, and it is the last: the space need have room for one alone.
 #[tactic(auto, unfolding(crate::specs::Act::act_of, crate::specs::Act::fetch_at, crate::specs::Act::decoded))]
+#[inline(always)]
 pub fn act<S: Space>(cpu: &mut Cpu, hart: u32, space: &mut S) -> Result<(), Refusal>
     requires next { cpu.old.next ≡ 0 }
     requires room { 0 < S.room space.old }
@@ -52,6 +53,7 @@ pub fn act<S: Space>(cpu: &mut Cpu, hart: u32, space: &mut S) -> Result<(), Refu
 
 // Executes an instruction whose word was fetched.
 #[tactic(auto, unfolding(crate::specs::Act::carried_out))]
+#[inline(always)]
 fn execute<S: Space>(
     cpu: &mut Cpu,
     hart: u32,
@@ -91,6 +93,7 @@ fn execute<S: Space>(
 }
 
 // Loads register `rd` from an aligned address.
+#[inline(always)]
 fn load<S: Space>(
     cpu: &mut Cpu,
     space: &mut S,
@@ -127,6 +130,7 @@ fn load<S: Space>(
 }
 
 // Stores a value's low bits at an aligned address.
+#[inline(always)]
 fn store<S: Space>(
     cpu: &mut Cpu,
     space: &mut S,

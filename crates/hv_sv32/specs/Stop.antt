@@ -27,8 +27,8 @@ abbrev pub IsBelow : ℕ → Stop → Type 0
 IsBelow depth (Trap cause tval) = Unit {0}
 IsBelow depth (Refused refusal) = refusal.level < depth
 
--- An answer fits the machine: an address lies in a page of the machine with the map F and has at most 34 bits, a cause is one of
--- the numbers 0 to 15, and a refusal's level is below this machine's.
+-- An answer fits the machine with the map F: an address lies in a page of it and has at most 34 bits, a cause is one of
+-- the numbers 0 to 15, and a refusal's level is below the machine's.
 pub record FitsMachine (F : List Slot) (depth : ℕ) (answer : Result ℕ Stop) : Type 0 where
   pub inside : IfOk answer (λ place. place / 4096 < length F)
   pub short : IfOk answer (λ place. place < 2 ^ 34)

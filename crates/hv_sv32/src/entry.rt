@@ -23,7 +23,10 @@ const ACCESSED: u32 = 6;
 
 const DIRTY: u32 = 7;
 
-// Bits of mstatus: loads and stores are made in the mode of MPP, S reaches pages of U, and what can be executed can be read.
+// Bits of mstatus: the mode before a trap; loads and stores are made in that mode; S reaches pages of U; and what can be
+// executed can be read.
+const MPP: u32 = 11;
+
 const MPRV: u32 = 17;
 
 const SUM: u32 = 18;
@@ -63,7 +66,7 @@ pub fn effective_mode(cpu: &Cpu, access: Access) -> Mode
     ensures { mode_word result ≡ spec.effective_mode cpu.now access }
 {
     if access != Access::Fetch && has_bit::<MPRV>(cpu.mstatus) {
-        match Mode::from_word(field::<11, 2>(cpu.mstatus)) {
+        match Mode::from_word(field::<MPP, 2>(cpu.mstatus)) {
             Some(mode) => mode,
             None => unreachable!(),
         }

@@ -66,7 +66,7 @@ fn walks(
 }
 
 #[test]
-fn large_pages(rt: HostRuntime) -> Result<(), Fail> {
+fn a_large_page_is_found_by_one_entry(rt: HostRuntime) -> Result<(), Fail> {
     let cases = [
         (0x0000_04CF, Access::Read, trap(13, 0x124)),
         (0x0000_008F, Access::Read, trap(13, 0x124)),
@@ -83,7 +83,7 @@ fn large_pages(rt: HostRuntime) -> Result<(), Fail> {
 }
 
 #[test]
-fn other_modes(rt: HostRuntime) -> Result<(), Fail> {
+fn mode_and_mstatus_choose_what_an_entry_lets_through(rt: HostRuntime) -> Result<(), Fail> {
     let read = [
         (0x49, Access::Read, trap(13, 0x124)),
         (0x5F, Access::Read, trap(13, 0x124)),
@@ -109,7 +109,7 @@ fn other_modes(rt: HostRuntime) -> Result<(), Fail> {
 }
 
 #[test]
-fn small_pages(rt: HostRuntime) -> Result<(), Fail> {
+fn a_small_page_is_found_by_two_entries(rt: HostRuntime) -> Result<(), Fail> {
     let cpu = hart(Mode::S, 0);
     let mut store = storage(
         rt.alloc(),
@@ -139,7 +139,7 @@ fn small_pages(rt: HostRuntime) -> Result<(), Fail> {
 }
 
 #[test]
-fn without_a_table(rt: HostRuntime) -> Result<(), Fail> {
+fn without_a_table_an_address_is_its_own_place(rt: HostRuntime) -> Result<(), Fail> {
     let mut store = storage(rt.alloc(), &[])?;
     let cpu = reset();
     assert_eq!(rt;

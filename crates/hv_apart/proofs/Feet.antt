@@ -9,7 +9,7 @@ use Rattle.std.proofs.lemmas.Grind.{flat_map-append}
 use Rattle.hv_word.specs.Storage.{page_count}
 use Rattle.hv_store.specs.declared.access.Slot.{Slot}
 use Rattle.hv_store.specs.Access.{identity}
-use Rattle.hv_map.specs.Apart.{opened_if, open_pages, directory_of, table_open, table_pages}
+use Rattle.hv_map.specs.Apart.{open_page_if, open_pages, directory_of, table_open, table_pages}
 use Rattle.hv_map.specs.Chain.{along, map_along}
 use Rattle.hv_map.specs.Compose.{compose, reading, table_of}
 use Rattle.hv_map.specs.Item.{Item}
@@ -35,22 +35,11 @@ own-parts (Some g) =
     ∙ ap (λ (xs : List ℕ). places g (range_with_len 0 42) ++ xs) (places-append g (range_with_len 43 6) (64 ∷ []))
     ∙ ap₂ (λ (a b : List ℕ). a ++ (b ++ places g (64 ∷ []))) (sym (append-nil (places g (range_with_len 0 42)))) (sym (append-nil (places g (range_with_len 43 6))))
 
-pub last-there : (items : List Item) (n : ℕ) (x : Item) → length items ≡ n + 1 → slice_get items n ≡ Some x → Some x.block ≡ last_block items
-last-there [] n x e is = cc
-last-there (y ∷ []) zero x e is = ap (λ (o : Option Item). block_at o) (sym is)
-  where
-    block_at : Option Item → Option ℕ
-    block_at None = None
-    block_at (Some z) = Some z.block
-last-there (y ∷ []) (suc n) x e is = cc
-last-there (y ∷ (z ∷ zs)) zero x e is = absurd (omega arith)
-last-there (y ∷ (z ∷ zs)) (suc n) x e is = last-there (z ∷ zs) n x (omega arith) is
-
 -- the pages that can be read
-pub page_foot-push : (F : List Slot) (i : ℕ) → i < length F → page_foot (take (i + 1) F) ≡ page_foot (take i F) ++ places_in 0 1024 (opened_if (reading F i))
+pub page_foot-push : (F : List Slot) (i : ℕ) → i < length F → page_foot (take (i + 1) F) ≡ page_foot (take i F) ++ places_in 0 1024 (open_page_if (reading F i))
 page_foot-push F i h =
     ap (places_in 0 1024) (pages-push F i h)
-    ∙ flat_map-append (λ (g : ℕ). places g (range_with_len 0 1024)) (open_pages (take i F)) (opened_if (reading F i))
+    ∙ flat_map-append (λ (g : ℕ). places g (range_with_len 0 1024)) (open_pages (take i F)) (open_page_if (reading F i))
 
 -- table words
 pub table_places-push : (S : List ℕ) (F : List Slot) (j : ℕ) (x : Item) (i : ℕ)

@@ -7,8 +7,9 @@ use Rattle.std.proofs.lemmas.Grind.{flat_map-append}
 use Rattle.std.proofs.lemmas.Option.{slice_get_within, get_or_from_slice_get, slice_get-get_or, same_Some}
 use Rattle.hv_store.specs.declared.access.Slot.{Slot}
 use Rattle.hv_store.specs.Access.{identity, open_at}
+use Rattle.hv_limits.specs.Limits.{pages_limit}
 use Rattle.hv_word.specs.Storage.{page_count}
-use Rattle.hv_map.specs.Apart.{blocks_of, opened, opened_if, open_pages, table_open, tables_of, directory_of, tables_along}
+use Rattle.hv_map.specs.Apart.{blocks_of, open_page, open_page_if, open_pages, table_open, tables_of, directory_of, tables_along}
 use Rattle.hv_map.specs.Chain.{along, map_along}
 use Rattle.hv_map.specs.Compose.{compose, reading, table_of}
 use Rattle.hv_map.specs.Item.{Item}
@@ -49,13 +50,13 @@ pub blocks-push : (items : List Item) (i : ℕ) (x : Item) → slice_get items i
 blocks-push items i x is = ap blocks_of (take-push Item items i x is) ∙ map-push (take i items) x
 
 -- pages
-pub pages-push : (F : List Slot) (i : ℕ) → i < length F → open_pages (take (i + 1) F) ≡ open_pages (take i F) ++ opened_if (reading F i)
+pub pages-push : (F : List Slot) (i : ℕ) → i < length F → open_pages (take (i + 1) F) ≡ open_pages (take i F) ++ open_page_if (reading F i)
 pages-push F i h =
     let s : Slot = get_or F i (open_at 0) in
     let is : slice_get F i ≡ Some s = slice_get-get_or F i (open_at 0) h in
     ap open_pages (take-push Slot F i s is)
-    ∙ flat_map-push Slot (λ (t : Slot). opened t.read) (take i F) s
-    ∙ ap (λ (o : Option Slot). open_pages (take i F) ++ opened_if (option_map (λ (t : Slot). t.read) o)) (sym is)
+    ∙ flat_map-push Slot (λ (t : Slot). open_page t.read) (take i F) s
+    ∙ ap (λ (o : Option Slot). open_pages (take i F) ++ open_page_if (option_map (λ (t : Slot). t.read) o)) (sym is)
 
 -- tables
 pub tables-push : (S : List ℕ) (F : List Slot) (j : ℕ) (x : Item) (k : ℕ) → first_tables S F j x (k + 1) ≡ first_tables S F j x k ++ table_open F (table_of S (reading F) j x.table x.version (1024 * k))
@@ -101,6 +102,6 @@ tables_along-more S items parent level x c is said there =
     ∙ ap (λ (ps : List Item). tables_along S P 0 first ++ (directory_of (along S P 0 ps) (machine_of c) ++ tables_of S (along S P 0 ps) (length ps) (machine_of c))) (sym there)
 
 -- a page that was found
-pub found_below : (r : Option ℕ) (P : ℕ) → P ≤ 16384 → IfSome r (λ g. g < P) → IfSome r (λ g. g < 16384)
+pub found_below : (r : Option ℕ) (P : ℕ) → P ≤ pages_limit → IfSome r (λ g. g < P) → IfSome r (λ g. g < pages_limit)
 found_below None P b h = h
 found_below (Some g) P b h = omega arith

@@ -5,4 +5,3 @@ pub mod Feet
 pub mod Growing
 pub mod Joining
 pub mod Lists
-pub mod Machines

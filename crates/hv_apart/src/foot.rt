@@ -5,8 +5,8 @@ ghost use Rattle.std.specs.Option.{option_to_list};
 ghost use Rattle.hv_word.specs.Storage.{page_count};
 ghost use Rattle.hv_store.specs.Access.{identity};
 ghost use Rattle.hv_map.specs.Chain.{map_along, pin_of};
-ghost use Rattle.hv_map.specs.Links.{syllable_of};
-ghost use Rattle.hv_nest.specs.Watched.{but_lines, chain_foot, foot, item_foot, last_block, own_places, page_foot, standing_places};
+ghost use Rattle.hv_map.specs.Links.{last_block, syllable_of};
+ghost use Rattle.hv_nest.specs.Watched.{but_lines, chain_foot, foot, item_foot, own_places, page_foot, standing_places};
 ghost use Rattle.hv_apart.specs.Marked.{Joined, SetOf, is_marked};
 ghost use Rattle.hv_apart.specs.Table.{machine_of, places_in, table_places};
 
@@ -80,7 +80,7 @@ fn drop_lines(words: &mut [u32], store: &Store, chain: &Chain)
     ensures { (xs : List ℕ) → SetOf words.old xs → SetOf words.new (but_lines (last_block chain.now) xs) }
 {
     let _pages = store.pages();
-    let Some(block) = block_of_last(store, chain) else {
+    let Some(block) = chain.last_block() else {
         return;
     };
     clear(words, 1024 * block + 42);
@@ -134,20 +134,10 @@ fn put_own(words: &mut [u32], store: &Store, chain: &Chain)
     requires room { length words.old ≡ 32 * page_count store.now }
     ensures { Joined words.old words.new (own_places (last_block chain.now)) }
 {
-    let block = block_of_last(store, chain);
+    let block = chain.last_block();
     put_words(words, store, block, 0, 42);
     put_words(words, store, block, 43, 6);
     put_words(words, store, block, 64, 1);
-}
-
-// The bare page of the last machine's control block.
-fn block_of_last(store: &Store, chain: &Chain) -> Option<u32>
-    requires pin_of { pin_of store.now (map syllable_of chain.now) ≡ Some chain.now }
-    ensures block { result ≡ last_block chain.now }
-    ensures bound { IfSome result (λ g. g < page_count store.now) }
-{
-    let last = chain.len().checked_sub(1)?;
-    Some(chain.item(last).block)
 }
 
 // All words of the pages that the machine can read.

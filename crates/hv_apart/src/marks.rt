@@ -2,14 +2,19 @@
 
 ghost use Rattle.std.specs.Prelude.{◌<◌, [], ◌∷◌, IfSome};
 ghost use Rattle.std.specs.Option.{option_to_list};
+ghost use Rattle.hv_limits.specs.Limits.{pages_limit};
 ghost use Rattle.hv_apart.specs.Added.{Added, Tells};
 
 use crate::bits::set;
+use hv_limits::PAGES;
 
-/// The bare pages that were added so far, of 16384 at most, and whether they are all different.
+// A bit for each page.
+const WORDS: usize = PAGES as usize / 32;
+
+/// The bare pages that were added so far, and whether they are all different.
 #[derive(Drop)]
 pub(crate) struct Marks {
-    words: [u32; 512],
+    words: [u32; WORDS],
     pub(crate) distinct: bool,
 }
 
@@ -18,22 +23,23 @@ impl Marks {
         ensures { Tells result [] }
     {
         Marks {
-            words: [0; 512],
+            words: [0; WORDS],
             distinct: true,
         }
     }
 
     pub(crate) fn add(&mut self, page: u32)
-        requires { page < 16384 }
+        requires { page < pages_limit }
         ensures { Added self.old self.new (page ∷ []) }
     {
         if set(&mut self.words, page) {
             self.distinct = false;
         }
     }
+
     /// Adds the page, if there is one.
     pub(crate) fn add_found(&mut self, page: Option<u32>)
-        requires { IfSome page (λ g. g < 16384) }
+        requires { IfSome page (λ g. g < pages_limit) }
         ensures { Added self.old self.new (option_to_list page) }
     {
         if let Some(page) = page {

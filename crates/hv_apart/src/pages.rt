@@ -1,21 +1,18 @@
 //! The bare pages in which a machine reads its pages and the tables of its children.
 
-ghost use Rattle.std.specs.Prelude.{◌≡◌, ◌+◌, ◌<◌, ◌≤◌, ◌^◌, IfSome, Some, length, map, slice_get, take};
+ghost use Rattle.std.specs.Prelude.{◌≡◌, ◌<◌, ◌≤◌, ◌^◌, IfSome, Some, length, map, take};
 ghost use Rattle.std.specs.Option.{option_to_list};
 ghost use Rattle.hv_word.specs.Storage.{page_count};
-ghost use Rattle.hv_map.specs.Apart.{opened_if, directory_of, table_open};
+ghost use Rattle.hv_map.specs.Apart.{open_page_if, directory_of, table_open};
 ghost use Rattle.hv_map.specs.Chain.{map_along, pin_of};
 ghost use Rattle.hv_map.specs.Compose.{reading, table_of};
-ghost use Rattle.hv_map.specs.Levels.{IsWithin};
 ghost use Rattle.hv_map.specs.Links.{syllable_of};
 ghost use Rattle.hv_apart.specs.Table.{machine_of};
 
 use hv_block::block_word;
-use hv_map::{Chain, ChainItem, Path, Slot, Way, pin, resolve};
-use hv_store::{Steps, Store};
+use hv_map::{Chain, ChainItem, Path, Way, page_slot, pin};
+use hv_store::Store;
 use hv_word::field;
-use std::marker::Brand;
-use std::sync::ledger::{Blank, Ledger};
 
 /// The first `level` machines of a chain of the store.
 pub(crate) fn prefix(store: &Store, chain: &Chain, level: u32) -> Chain
@@ -33,13 +30,13 @@ pub(crate) fn prefix(store: &Store, chain: &Chain, level: u32) -> Chain
 
 /// The bare page of page `page` of the chain's machine for reading; none where it has no such page or can't read it.
 pub(crate) fn read_at(store: &Store, chain: &Chain, page: u64) -> Option<u32>
-    ensures page { option_to_list result ≡ opened_if (reading (map_along store.now chain.now) page) }
+    ensures page { option_to_list result ≡ open_page_if (reading (map_along store.now chain.now) page) }
     ensures bound { IfSome result (λ g. g < page_count store.now) }
 {
     if page >= u64::from(chain.pages(store)) {
         return None;
     }
-    match slot_of(store, chain, page as u32).read {
+    match page_slot(store, chain, page as u32).read {
         Way::Open { host } => Some(host),
         Way::Shut { .. } => None,
     }
@@ -76,26 +73,4 @@ pub(crate) fn table_page(store: &Store, chain: &Chain, child: ChainItem, page: u
         return None;
     }
     read_at(store, chain, u64::from(field::<12, 20>(word)))
-}
-
-// Where page `page` of the chain's machine lies.
-fn slot_of(store: &Store, chain: &Chain, page: u32) -> Slot
-    requires { page < length (map_along store.now chain.now) }
-    ensures slot { slice_get (map_along store.now chain.now) page ≡ Some result }
-    ensures within { IsWithin (page_count store.now) (length chain.now) result }
-{
-    slot_from::<Brand>(store, chain, page, Blank::new(1))
-}
-
-// The same, with a ledger in which its steps are counted and let go.
-fn slot_from<L: Ledger>(store: &Store, chain: &Chain, page: u32, blank: Blank) -> Slot
-    requires page { page < length (map_along store.now chain.now) }
-    requires name { blank.name ≡ L.name }
-    requires parts { blank.parts ≡ L.parts }
-    requires some { 0 < blank.parts }
-    ensures slot { slice_get (map_along store.now chain.now) page ≡ Some result }
-    ensures within { IsWithin (page_count store.now) (length chain.now) result }
-{
-    let mut steps = Steps::<L>::new(blank);
-    resolve(store, chain, page, &mut steps)
 }

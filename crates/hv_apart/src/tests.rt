@@ -33,14 +33,14 @@ fn kid() -> Path {
 }
 
 // Whether machine 1 is one to one, and stands apart.
-#[tactic(auto, using(crate::proofs::Machines::pinned_own))]
+#[tactic(auto, using(hv_map::proofs::Machines::pinned_own))]
 fn told(store: &Store) -> Option<(bool, bool)> {
     let chain = pin(store, &kid())?;
     Some((one_to_one(store, &chain), apart(store, &chain)))
 }
 
 // Whether machine 1 needs the word at a place to itself.
-#[tactic(auto, using(crate::proofs::Machines::pinned_own))]
+#[tactic(auto, using(hv_map::proofs::Machines::pinned_own))]
 fn needs(alloc: Global, store: &Store, place: u32) -> Result<Option<bool>, AllocError> {
     let Some(chain) = pin(store, &kid()) else {
         return Ok(None);

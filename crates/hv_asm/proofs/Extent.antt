@@ -39,22 +39,22 @@ pub asm_within : (text : List ℕ) (base k : ℕ) (kind : AsmKind) → asm_of te
 unfolding asm_of
 asm_within text base k kind is = words_within _ base 1 base k kind (lines_of text) is
 
-then_ok : {A B : Type 0} (r : Result A AsmKind) (f : A → Result B AsmKind) (x : B) → (r >>= f) ≡ Ok x → (v : A) × (r ≡ Ok v) × (f v ≡ Ok x)
+pub then_ok : {A B : Type 0} (r : Result A AsmKind) (f : A → Result B AsmKind) (x : B) → (r >>= f) ≡ Ok x → (v : A) × (r ≡ Ok v) × (f v ≡ Ok x)
 then_ok (Ok v) f x is = (v, refl, is)
 then_ok (Err k) f x is = cc
 
-ok_is : (x y : List ℕ) → (let r : Result (List ℕ) AsmKind = Ok x in r) ≡ Ok y → x ≡ y
+pub ok_is : (x y : List ℕ) → (let r : Result (List ℕ) AsmKind = Ok x in r) ≡ Ok y → x ≡ y
 ok_is x y is = cc
 
-both : (a b : Bool) → (a && b) ≡ true → (a ≡ true) × (b ≡ true)
+pub both : (a b : Bool) → (a && b) ≡ true → (a ≡ true) × (b ≡ true)
 both true b e = (refl, e)
 both false b e = cc
 
-kept : (b : Bool) (r : Result (List ℕ) AsmKind) (k : AsmKind) (ws : List ℕ) → cond b r (Err k) ≡ Ok ws → (b ≡ true) × (r ≡ Ok ws)
+pub kept : (b : Bool) (r : Result (List ℕ) AsmKind) (k : AsmKind) (ws : List ℕ) → cond b r (Err k) ≡ Ok ws → (b ≡ true) × (r ≡ Ok ws)
 kept true r k ws is = (refl, is)
 kept false r k ws is = cc
 
-passed : (b : Bool) (r : Result (List ℕ) AsmKind) (k : AsmKind) (ws : List ℕ) → cond b (Err k) r ≡ Ok ws → r ≡ Ok ws
+pub passed : (b : Bool) (r : Result (List ℕ) AsmKind) (k : AsmKind) (ws : List ℕ) → cond b (Err k) r ≡ Ok ws → r ≡ Ok ws
 passed true r k ws is = cc
 passed false r k ws is = is
 
@@ -156,21 +156,21 @@ worked_sized find base at end line (Work (Some operation) operands) ws is =
     let e : s.0 ≡ ws = ok_is s.0 ws k.1 in
     (ap (λ (ws : List ℕ). 4 * length ws) (sym e) ∙ words_sized find at line operation operands s.0 s.1, λ some. has_ends base end k.0)
 
-line_worked : (b c : Bool) (r : Result (List ℕ) AsmKind) (k : AsmKind) (ws : List ℕ) → cond b r (cond c (Err k) r) ≡ Ok ws → r ≡ Ok ws
+pub line_worked : (b c : Bool) (r : Result (List ℕ) AsmKind) (k : AsmKind) (ws : List ℕ) → cond b r (cond c (Err k) r) ≡ Ok ws → r ≡ Ok ws
 line_worked true c r k ws is = is
 line_worked false c r k ws is = passed c r k ws is
 
-line_sized : (find : List ℕ → Option Place) (base n at : ℕ) (line : List ℕ) (r : Reading) (ws : List ℕ) → line_words find base n at line r ≡ Ok ws → (4 * length ws ≡ size_of r.deed) × Ends base (at + size_of r.deed) ws
+pub line_sized : (find : List ℕ → Option Place) (base n at : ℕ) (line : List ℕ) (r : Reading) (ws : List ℕ) → line_words find base n at line r ≡ Ok ws → (4 * length ws ≡ size_of r.deed) × Ends base (at + size_of r.deed) ws
 unfolding line_words
 line_sized find base n at line r ws is =
     worked_sized find base at (at + size_of r.deed) line r.deed ws
     (line_worked (is_refused r.deed) (repeats find n r.label) (worked_words find base at (at + size_of r.deed) line r.deed) _ ws is)
 
-front_ok : (front : List ℕ) (b : Words) (ws : List ℕ) → in_front front b ≡ Ok ws → (v : List ℕ) × (b ≡ Ok v) × (front ++ v ≡ ws)
+pub front_ok : (front : List ℕ) (b : Words) (ws : List ℕ) → in_front front b ≡ Ok ws → (v : List ℕ) × (b ≡ Ok v) × (front ++ v ≡ ws)
 front_ok front (Ok v) ws is = let e : front ++ v ≡ ws = cc in (v, refl, e)
 front_ok front (Err e) ws is = cc
 
-next_ok : (n : ℕ) (r : Result (List ℕ) AsmKind) (b : Words) (ws : List ℕ) → and_then n r b ≡ Ok ws → (w : List ℕ) × (r ≡ Ok w) × (in_front w b ≡ Ok ws)
+pub next_ok : (n : ℕ) (r : Result (List ℕ) AsmKind) (b : Words) (ws : List ℕ) → and_then n r b ≡ Ok ws → (w : List ℕ) × (r ≡ Ok w) × (in_front w b ≡ Ok ws)
 next_ok n (Ok w) b ws is = (w, refl, is)
 next_ok n (Err k) b ws is = cc
 

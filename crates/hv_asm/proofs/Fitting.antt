@@ -13,11 +13,11 @@ use Rattle.hv_asm.specs.declared.amounts.Amount.TheVariants.{Plus, Minus}
 use Rattle.hv_asm.specs.declared.forms.Form.{Form}
 use Rattle.hv_asm.specs.declared.forms.Form.TheVariants.{Immediate, Load, CsrRegister, CsrNumber, Bare}
 
-ranged_ok : (b : Bool) (n imm : ℕ) → ranged b n ≡ Ok imm → (b ≡ true) × (n ≡ imm)
+pub ranged_ok : (b : Bool) (n imm : ℕ) → ranged b n ≡ Ok imm → (b ≡ true) × (n ≡ imm)
 ranged_ok true n imm is = let e : n ≡ imm = cc in (refl, e)
 ranged_ok false n imm is = cc
 
-both : (a b : Bool) → (a && b) ≡ true → (a ≡ true) × (b ≡ true)
+pub both : (a b : Bool) → (a && b) ≡ true → (a ≡ true) × (b ≡ true)
 both true b e = (refl, e)
 both false b e = cc
 
@@ -37,7 +37,7 @@ even_word : (a : Amount) → is_even a ≡ true → word_of a % 2 ≡ 0
 even_word (Plus n) e = let h : n % 2 ≡ 0 = eqb-true (n % 2) 0 e in omega arith
 even_word (Minus n) e = let h : n % 2 ≡ 0 = eqb-true (n % 2) 0 e in omega arith
 
-below : (bound : ℕ) (a : Amount) → 0 < bound → bound ≤ 2 ^ 32 → within bound a ≡ true → word_of a < bound
+pub below : (bound : ℕ) (a : Amount) → 0 < bound → bound ≤ 2 ^ 32 → within bound a ≡ true → word_of a < bound
 below bound (Plus n) some most e = let h : n < bound = ltb-true n bound e in omega arith
 below bound (Minus n) some most e = let h : n ≡ 0 = eqb-true n 0 e in rw h some
 

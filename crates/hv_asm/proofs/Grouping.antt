@@ -1,25 +1,26 @@
 -- Cutting tokens at their first comma, and the operands of a line one more at a time.
 use Rattle.std.proofs.Common.{◌≡◌, ℕ, zero, suc, ◌<◌, ◌≤◌, nat_eq, true, false, cond, List, [], ◌∷◌, ◌++◌, length, get_or, take, drop, Option, Some, None, refl, sym, ap, ◌∙◌, arith, length-drop, drop-cons, eq-eqb}
+use Rattle.std.specs.List.{onto_first}
 use Rattle.std.specs.Option.{option_and_then}
 use Rattle.std.proofs.Math.Seq.{take-length}
 use Rattle.hv_lex.specs.declared.Token.{Token}
-use Rattle.hv_asm.specs.Operands.{is_comma, onto, groups_of, operand_of, operands_from, operands_of}
+use Rattle.hv_asm.specs.Operands.{is_comma, groups_of, operand_of, operands_from, operands_of}
 use Rattle.hv_asm.specs.declared.operands.Operand.{Operand}
 
 group_cut : (s : List Token) (n : ℕ) → n < length s → ((k : ℕ) (d : Token) → k < n → is_comma (get_or s k d).kind ≡ false) → ((d : Token) → is_comma (get_or s n d).kind ≡ true) → groups_of s ≡ take n s ∷ groups_of (drop (suc n) s)
 unfolding groups_of
 group_cut [] n lt before here = absurd (omega arith)
-group_cut (c ∷ cs) zero lt before here = ap (λ b. cond b ([] ∷ groups_of cs) (onto c (groups_of cs))) (here c)
+group_cut (c ∷ cs) zero lt before here = ap (λ b. cond b ([] ∷ groups_of cs) (onto_first c (groups_of cs))) (here c)
 group_cut (c ∷ cs) (suc n) lt before here =
-    ap (λ b. cond b ([] ∷ groups_of cs) (onto c (groups_of cs))) (before zero c (omega arith))
-    ∙ ap (onto c) (group_cut cs n (omega arith) (λ k d h. before (suc k) d (omega arith)) here)
+    ap (λ b. cond b ([] ∷ groups_of cs) (onto_first c (groups_of cs))) (before zero c (omega arith))
+    ∙ ap (onto_first c) (group_cut cs n (omega arith) (λ k d h. before (suc k) d (omega arith)) here)
 
 group_last : (s : List Token) → ((k : ℕ) (d : Token) → k < length s → is_comma (get_or s k d).kind ≡ false) → groups_of s ≡ s ∷ []
 unfolding groups_of
 group_last [] before = refl
 group_last (c ∷ cs) before =
-    ap (λ b. cond b ([] ∷ groups_of cs) (onto c (groups_of cs))) (before zero c (omega arith))
-    ∙ ap (onto c) (group_last cs (λ k d h. before (suc k) d (omega arith)))
+    ap (λ b. cond b ([] ∷ groups_of cs) (onto_first c (groups_of cs))) (before zero c (omega arith))
+    ∙ ap (onto_first c) (group_last cs (λ k d h. before (suc k) d (omega arith)))
 
 pub group_at : (s l t r : List Token) (b : Token) (n : ℕ) → ((k : ℕ) (d : Token) → k < n → is_comma (get_or s k d).kind ≡ false) → ((d : Token) → n < length s → is_comma (get_or s n d).kind ≡ true) → l ≡ take n s → t ≡ drop n s → t ≡ b ∷ r → groups_of s ≡ l ∷ groups_of r
 group_at s l t r b n before here front back more =

@@ -9,3 +9,8 @@ pub mod Written
 pub mod Named
 pub mod FormLines
 pub mod Extent
+pub mod Decoded
+pub mod Fields
+pub mod Instructions
+pub mod Loads
+pub mod Imaged

@@ -66,7 +66,8 @@ and_then number (Err kind) behind = Err (number, kind)
 and_then number (Ok words) behind = in_front words behind
 
 -- the words of lines, or the number and the fault of the first that is refused
-unfoldable pub words_from : (List ℕ → Option Place) → (base number at : ℕ) → List (List ℕ) → Result (List ℕ) (ℕ × AsmKind)
+unfoldable pub words_from :
+    (List ℕ → Option Place) → (base number at : ℕ) → List (List ℕ) → Result (List ℕ) (ℕ × AsmKind)
 words_from find base number at [] = Ok []
 words_from find base number at (line ∷ lines) =
     and_then number (line_words find base number at line (read_of line))

@@ -9,3 +9,7 @@ pub mod Emitted
 pub mod Assembly
 pub mod Seen
 pub mod Answer
+pub mod Kinds
+pub mod Roles
+pub mod Meaning
+pub mod Law

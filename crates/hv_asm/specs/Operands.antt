@@ -1,5 +1,6 @@
 -- The shape of a line: an optional label, and then nothing, or an operation with operands that commas separate.
 use Rattle.std.specs.Prelude.{ℕ, ◌*◌, ◌%◌, ◌==◌, ◌&&◌, nat_le, List, [], ◌∷◌, ◌++◌, length, Bool, true, false, if◌then◌else◌, Option, Some, None, Result, Ok, Err, take, drop}
+use Rattle.std.specs.List.{slice_split}
 use Rattle.std.specs.Option.{option_and_then}
 use Rattle.hv_lex.specs.Tokens.{tokens_of}
 use Rattle.hv_lex.specs.declared.Token.{Token}
@@ -29,15 +30,9 @@ is_comma Colon = false
 is_comma Open = false
 is_comma Close = false
 
--- the groups with a token in front of the first of them
-abbrev pub onto : Token → List (List Token) → List (List Token)
-onto t [] = (t ∷ []) ∷ []
-onto t (group ∷ groups) = (t ∷ group) ∷ groups
-
 -- what stands between commas
 unfoldable pub groups_of : List Token → List (List Token)
-groups_of [] = [] ∷ []
-groups_of (t ∷ ts) = if is_comma t.kind then [] ∷ groups_of ts else onto t (groups_of ts)
+groups_of ts = slice_split (λ t. is_comma t.kind) ts
 
 -- the groups of what is behind a group, where a comma ended it
 abbrev pub groups_behind : Option (List Token) → List (List Token)

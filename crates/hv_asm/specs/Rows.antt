@@ -65,16 +65,19 @@ immediate_word line op (a ∷ b ∷ n ∷ []) =
 immediate_word line op _ = Err fault.Operand
 
 unfoldable pub load_word : List ℕ → Op → List Operand → Result ℕ AsmKind
-load_word line op (a ∷ Based imm t ∷ []) = register line a >>= λ rd. register_at line t >>= λ rs1. word_with op rd rs1 0 imm
+load_word line op (a ∷ Based imm t ∷ []) =
+    register line a >>= λ rd. register_at line t >>= λ rs1. word_with op rd rs1 0 imm
 load_word line op _ = Err fault.Operand
 
 unfoldable pub store_word : List ℕ → Op → List Operand → Result ℕ AsmKind
-store_word line op (a ∷ Based imm t ∷ []) = register line a >>= λ rs2. register_at line t >>= λ rs1. word_with op 0 rs1 rs2 imm
+store_word line op (a ∷ Based imm t ∷ []) =
+    register line a >>= λ rs2. register_at line t >>= λ rs1. word_with op 0 rs1 rs2 imm
 store_word line op _ = Err fault.Operand
 
 unfoldable pub branch_word : (List ℕ → Option Place) → ℕ → List ℕ → Op → List Operand → Result ℕ AsmKind
 branch_word find at line op (a ∷ b ∷ to ∷ []) =
-    register line a >>= λ rs1. register line b >>= λ rs2. target find at line to >>= λ offset. word_with op 0 rs1 rs2 offset
+    register line a >>= λ rs1. register line b >>= λ rs2. target find at line to >>= λ offset.
+    word_with op 0 rs1 rs2 offset
 branch_word find at line op _ = Err fault.Operand
 
 -- a branch that compares with zero
@@ -108,11 +111,13 @@ small n = ranged (within 32 n) (word_of n)
 
 unfoldable pub csr_number_word : List ℕ → Op → List Operand → Result ℕ AsmKind
 csr_number_word line op (a ∷ b ∷ n ∷ []) =
-    register line a >>= λ rd. csr line b >>= λ imm. number n >>= λ value. small value >>= λ rs1. word_with op rd rs1 0 imm
+    register line a >>= λ rd. csr line b >>= λ imm. number n >>= λ value. small value >>= λ rs1.
+    word_with op rd rs1 0 imm
 csr_number_word line op _ = Err fault.Operand
 
 unfoldable pub sources_word : List ℕ → Op → List Operand → Result ℕ AsmKind
-sources_word line op (a ∷ b ∷ []) = register line a >>= λ rs1. register line b >>= λ rs2. word_with op 0 rs1 rs2 (Plus 0)
+sources_word line op (a ∷ b ∷ []) =
+    register line a >>= λ rs1. register line b >>= λ rs2. word_with op 0 rs1 rs2 (Plus 0)
 sources_word line op _ = Err fault.Operand
 
 unfoldable pub source_word : List ℕ → Op → List Operand → Result ℕ AsmKind

@@ -33,14 +33,16 @@ high_part v = Plus ((if nat_lt (v % 4096) 2048 then v / 4096 else v / 4096 + 1) 
 -- lui and addi make a word in a register
 unfoldable pub pair_words : ℕ → ℕ → Result (List ℕ) AsmKind
 pair_words rd v =
-    word_with op.Lui rd 0 0 (high_part v) >>= λ high. word_with op.Addi rd rd 0 (low_part v) >>= λ low. Ok (high ∷ low ∷ [])
+    word_with op.Lui rd 0 0 (high_part v) >>= λ high. word_with op.Addi rd rd 0 (low_part v) >>= λ low.
+    Ok (high ∷ low ∷ [])
 
 unfoldable pub li_words : List ℕ → List Operand → Result (List ℕ) AsmKind
 li_words line (a ∷ n ∷ []) = register line a >>= λ rd. number n >>= λ amount. value amount >>= λ v. pair_words rd v
 li_words line _ = Err fault.Operand
 
 unfoldable pub la_words : (List ℕ → Option Place) → List ℕ → List Operand → Result (List ℕ) AsmKind
-la_words find line (a ∷ Name t ∷ []) = register line a >>= λ rd. address find line t >>= λ to. pair_words rd (to % 2 ^ 32)
+la_words find line (a ∷ Name t ∷ []) =
+    register line a >>= λ rd. address find line t >>= λ to. pair_words rd (to % 2 ^ 32)
 la_words find line _ = Err fault.Operand
 
 unfoldable pub bare_short : Op → ℕ → List Operand → Result ℕ AsmKind
@@ -97,7 +99,8 @@ values_of find line (o ∷ os) = value_at find line o >>= λ w. values_of find l
 unfoldable pub value_words : (List ℕ → Option Place) → List ℕ → List Operand → Result (List ℕ) AsmKind
 value_words find line operands =
     if length operands == 0 then Err fault.Operand
-    else if list_all is_value operands then (if list_all (is_defined find line) operands then values_of find line operands else Err fault.Label)
+    else if list_all is_value operands then
+    (if list_all (is_defined find line) operands then values_of find line operands else Err fault.Label)
     else Err fault.Operand
 
 -- zeros, as many bytes as a multiple of 4 up to 2 ^ 20 says

@@ -50,7 +50,9 @@ fn push_work(
     line: &[u8],
     body: &Body,
 ) -> Result<(), LineEnd>
-    ensures { Appends result (worked_words (place_in labels.now) spot.base spot.at spot.end line.now (deed_in body.now)) out.old.items out.new.items }
+    ensures { Appends result
+        (worked_words (place_in labels.now) spot.base spot.at spot.end line.now (deed_in body.now))
+        out.old.items out.new.items }
 {
     match body {
         Body::Refused(kind) => Err(LineEnd::Fault(*kind)),
@@ -77,7 +79,9 @@ pub(crate) fn push_line(
     read: &Line,
 ) -> Result<(), LineEnd>
     requires { spot.end ≡ spot.at + size_of (deed_in read.now.body) }
-    ensures { Appends result (line_words (place_in labels.now) spot.base spot.number spot.at line.now (reading_in line.now read.now)) out.old.items out.new.items }
+    ensures { Appends result
+        (line_words (place_in labels.now) spot.base spot.number spot.at line.now (reading_in line.now read.now))
+        out.old.items out.new.items }
 {
     if let Body::Refused(kind) = &read.body {
         return Err(LineEnd::Fault(*kind));

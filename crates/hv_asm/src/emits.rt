@@ -365,7 +365,8 @@ pub(crate) fn push_words(
     operation: Operation,
     operands: &[Operand],
 ) -> Result<(), LineEnd>
-    ensures { Appends result (words_with_of (place_in labels.now) at line.now operation operands.now) out.old.items out.new.items }
+    ensures { Appends result (words_with_of (place_in labels.now) at line.now operation operands.now)
+        out.old.items out.new.items }
 {
     match operation {
         Operation::Li => push_pair(out, li_words(line, operands)),

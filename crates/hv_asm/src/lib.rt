@@ -4,6 +4,7 @@
 ghost use Rattle.std.specs.Prelude.{◌≡◌, ◌+◌, ◌%◌, ◌<◌, ◌^◌, length};
 ghost use Rattle.hv_asm.specs.Answer.{GivesImage, GivesWords, ended};
 ghost use Rattle.hv_asm.specs.Assembly.{asm_of, words_from};
+ghost use Rattle.hv_asm.specs.Kinds.{asm_kind_text};
 ghost use Rattle.hv_asm.specs.Labels.{place_in};
 ghost use Rattle.hv_lex.specs.Lines.{lines_of};
 
@@ -12,6 +13,7 @@ mod assembled;
 mod emits;
 mod forms;
 mod labels;
+pub mod laws;
 mod lines;
 mod names;
 mod operands;
@@ -21,11 +23,12 @@ mod rows;
 use assembled::{Spot, push_line};
 use emits::LineEnd;
 use hv_lex::first_line;
+use hv_list::Items;
 use labels::Labels;
 use lines::{read_line, size};
 use places::find_labels;
 use std::alloc::{AllocError, Global};
-use std::marker::Model;
+use std::fmt::{self, Display, Formatter};
 
 /// Why a line is refused, in the order of the tests.
 #[derive(Clone, Copy, Debug, PartialEq, Eq)]
@@ -44,6 +47,34 @@ pub enum AsmKind {
     Label,
     /// A number is outside its range, or the words are too many or pass the last address.
     Range,
+}
+
+impl AsmKind {
+    /// The word that stands for the kind in a refusal.
+    pub fn word(self) -> &'static str
+        ensures { result.now ≡ asm_kind_text self }
+    {
+        match self {
+            AsmKind::Byte => "byte",
+            AsmKind::Syntax => "syntax",
+            AsmKind::Repeat => "repeat",
+            AsmKind::Mnemonic => "mnemonic",
+            AsmKind::Operand => "operand",
+            AsmKind::Label => "label",
+            AsmKind::Range => "range",
+        }
+    }
+}
+
+impl Display for AsmKind {
+    ghost use Rattle.std.specs.Prelude.{Some};
+    ghost use Rattle.hv_asm.specs.Kinds.{asm_kind_text};
+
+    ghost output = { λ kind. Some (asm_kind_text kind) };
+
+    fn fmt<W: fmt::Write>(&self, f: &mut Formatter<W>) -> fmt::Result {
+        f.write_str(self.word())
+    }
 }
 
 /// Why a text has no words.
@@ -66,48 +97,11 @@ impl From<AllocError> for AsmEnd {
     }
 }
 
-/// The words of an image. It is seen as the list of these.
-#[derive(Drop)]
-pub struct Words {
-    words: Vec<u32>,
-}
-
-impl Model for Words {
-    ghost use Rattle.std.specs.Prelude.{ℕ, List};
-
-    ghost Value = { List ℕ };
-
-    ghost view = { λ w. w.words.items };
-}
-
-impl Words {
-    /// The words of a list.
-    pub fn new(words: Vec<u32>) -> Words
-        ensures { result ≡ words.items }
-    {
-        Words { words }
-    }
-
-    /// The words, from the first address on.
-    pub fn as_slice(&self) -> &[u32]
-        ensures { result.now ≡ self.now }
-    {
-        self.words.as_slice()
-    }
-
-    /// The list of the words.
-    pub fn into_vec(self) -> Vec<u32>
-        ensures { result.items ≡ self }
-    {
-        self.words
-    }
-}
-
-/// Words, and the address of the first of them.
+/// Words in the order of their addresses, and the address of the first of them.
 #[derive(Drop)]
 pub struct Image {
     pub base: u32,
-    pub words: Words,
+    pub words: Items<u32>,
 }
 
 /// The words of a text of assembly whose first address is the base, a multiple of 4. A refusal is that of the least
@@ -122,7 +116,7 @@ pub fn assemble(alloc: Global, text: &[u8], base: u32) -> Result<Image, AsmEnd>
     let words = assemble_lines(alloc, &labels, text, base)?;
     Ok(Image {
         base,
-        words: Words::new(words),
+        words: Items::new(words),
     })
 }
 

@@ -88,7 +88,8 @@ fn first_group(tokens: &[Token]) -> (&[Token], Option<&[Token]>)
 fn find_comma(tokens: &[Token]) -> usize
     ensures within { result ≤ length tokens.now }
     ensures before { (k : ℕ) (d : Token) → k < result → is_comma_of (slice_index_or tokens.now k d).kind ≡ false }
-    ensures found { (d : Token) → result < length tokens.now → is_comma_of (slice_index_or tokens.now result d).kind ≡ true }
+    ensures found { (d : Token) → result < length tokens.now
+        → is_comma_of (slice_index_or tokens.now result d).kind ≡ true }
 {
     for (i, token) in tokens.iter().enumerate() {
         if is_comma(token.kind) {

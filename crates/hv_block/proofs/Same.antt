@@ -6,7 +6,7 @@ use Rattle.hv_cpu.specs.Regs.{Regs}
 use Rattle.hv_block.specs.Block.{put_regs, regs_at}
 
 -- n words of S, from place i + k on
-words_from : List ℕ → ℕ → ℕ → ℕ → List ℕ
+unfoldable pub words_from : List ℕ → ℕ → ℕ → ℕ → List ℕ
 words_from S i k zero = []
 words_from S i k (suc n) = get_or S (i + k) 0 ∷ words_from S i (suc k) n
 

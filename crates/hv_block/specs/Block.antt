@@ -1,9 +1,10 @@
 -- A control block is one page of a machine's storage by which that machine runs another, its child. Its words:
--- 0 to 48 are the child's registers, in the order of `spelled`, and 64 its next; 65 is how many pages the child has, 66 where
--- its table or directory is, 67 the version of the block; 72, 73 and 74 are cause, address and access of the last fault.
--- Every other word is the running machine's own. (The privileged architecture has no such block: it is this machine's
--- own, after the virtual machine control blocks of hypervisors.)
-use Rattle.std.specs.Prelude.{◌≢◌, ◌≤◌, ℕ, ◌*◌, ◌/◌, ◌%◌, ◌^◌, Bool, not, ◌&&◌, ◌||◌, ◌==◌, nat_lt, nat_le, if◌then◌else◌, List, take, Option, Some, None}
+-- 0 to 48 are the child's registers, in the order of `spelled`, and 64 its next; 65 is how many pages the child has, 66
+-- where its table or directory is, 67 the version of the block; 72, 73 and 74 are cause, address and access of the last
+-- fault. Every other word is the running machine's own. (The privileged architecture has no such block: it is this
+-- machine's own, after the virtual machine control blocks of hypervisors.)
+use Rattle.std.specs.Prelude.{◌≢◌, ◌≤◌, ℕ, ◌*◌, ◌/◌, ◌%◌, ◌^◌, Bool, not, ◌&&◌, ◌||◌, ◌==◌, nat_lt, nat_le}
+use Rattle.std.specs.Prelude.{if◌then◌else◌, List, take, Option, Some, None}
 use Rattle.std.specs.Int.RustNames.{bit_and}
 use Rattle.std.proofs.Math.Seq.{sets}
 use Rattle.hv_word.specs.Storage.{word_at, with_word}

@@ -1,8 +1,8 @@
 -- The laws of control blocks, as statements.
-use Rattle.std.specs.Prelude.{◌≡◌, ◌≢◌, ℕ, ◌<◌, ◌⊎◌, List}
+use Rattle.std.specs.Prelude.{◌≡◌, ◌≢◌, ◌↔◌, ℕ, ◌<◌, ◌⊎◌, List, true}
 use Rattle.hv_word.specs.Storage.{page_count, word_at}
-use Rattle.hv_cpu.specs.Regs.{Regs}
-use Rattle.hv_block.specs.Block.{block_of, put_regs, regs_at, IsOther}
+use Rattle.hv_cpu.specs.Regs.{Regs, FitsHart}
+use Rattle.hv_block.specs.Block.{block_of, fits_hart, put_regs, regs_at, IsOther}
 
 -- two pages with the same words hold the same block, or both none
 abbrev pub PageLaw : Type 0
@@ -26,3 +26,7 @@ OtherLaw =
 -- one state of a block has one spelling: to put the registers that its page says changes nothing
 abbrev pub SpellingLaw : Type 0
 SpellingLaw = (S : List ℕ) (g : ℕ) → put_regs S g (regs_at S g) ≡ S
+
+-- the registers that a block can say are those that a hart can have
+abbrev pub FitsLaw : Type 0
+FitsLaw = (r : Regs) → (fits_hart r ≡ true) ↔ FitsHart r

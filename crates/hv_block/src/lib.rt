@@ -1,9 +1,10 @@
 //! Control blocks: how a machine lies in a page of the storage of the machine that runs it.
 #![tactic(auto)]
 
-ghost use Rattle.std.specs.Prelude.{◌≡◌, ℕ, ◌+◌, ◌*◌, ◌^◌, ◌<◌, ◌≤◌, IfSome, if◌then◌else◌, Some, None, length, true};
+ghost use Rattle.std.specs.Prelude.{◌≡◌, ℕ, ◌+◌, ◌*◌, ◌^◌, ◌<◌, ◌≤◌, ◌==◌, bit_and, IfSome, if◌then◌else◌, Some, None, length, true};
 ghost use Rattle.std.specs.Option.{option_map};
 ghost use Rattle.hv_word.specs.Storage.{page_count, word_at};
+ghost use Rattle.hv_cpu.specs.Regs.{FitsHart, file_of};
 ghost use Rattle.hv_block.specs.Block.{regs_at, fits_hart, block_of, put_regs, with_fault};
 ghost use Rattle.std.proofs.Math.Seq.{sets};
 ghost use Rattle.hv_block.specs.Held.{held_of, fits_size};
@@ -12,8 +13,10 @@ pub mod laws;
 #[cfg(test)]
 mod tests;
 
+use hv_cpu::mstatus::{MPP, MPP_BITS};
 use hv_cpu::{Cpu, MEDELEG_MASK, MIDELEG_MASK, MIE_MASK, MIP_MASK, MSTATUS_MASK, Mode, SATP_MASK};
 use hv_store::Store;
+use hv_word::field;
 
 /// A machine as its control block says it: its registers, how many pages it has (1 to 2^20), where its table is in its
 /// parent's pages (a table in version 0, a directory of tables in version 2), and the version of the block, 0 or 2.
@@ -82,96 +85,85 @@ fn read_cpu(store: &Store, page: u32) -> Option<Cpu>
     requires { page < page_count store.now }
     ensures { result ≡ (if fits_hart (regs_at store.now page) then Some (regs_at store.now page) else None) }
 {
-    let pc = block_word(store, page, 0);
-    let mode = block_word(store, page, 32);
-    let mstatus = block_word(store, page, 33);
-    let mtvec = block_word(store, page, 34);
-    let mepc = block_word(store, page, 35);
-    let medeleg = block_word(store, page, 39);
-    let mideleg = block_word(store, page, 40);
-    let mie = block_word(store, page, 41);
-    let mip = block_word(store, page, 42);
-    let stvec = block_word(store, page, 43);
-    let sepc = block_word(store, page, 44);
-    let satp = block_word(store, page, 48);
-    if pc % 4 != 0 {
+    if !is_of_hart(store, page) {
         return None;
     }
-    let mode = match mode {
-        0 => Mode::U,
-        1 => Mode::S,
-        3 => Mode::M,
-        _ => return None,
-    };
-    if mstatus & MSTATUS_MASK != mstatus
-        || mstatus / 2048 % 4 == 2
-        || mtvec % 4 > 1
-        || mepc % 4 != 0
-    {
-        return None;
-    }
-    if medeleg & MEDELEG_MASK != medeleg || mideleg & MIDELEG_MASK != mideleg {
-        return None;
-    }
-    if mie & MIE_MASK != mie || mip & MIP_MASK != mip {
-        return None;
-    }
-    if stvec % 4 > 1 || sepc % 4 != 0 || satp & SATP_MASK != satp {
-        return None;
-    }
+    let mode = Mode::from_word(block_word(store, page, 32))?;
     let next = block_word(store, page, 64);
     Some(Cpu {
-        pc,
-        x1: block_word(store, page, 1),
-        x2: block_word(store, page, 2),
-        x3: block_word(store, page, 3),
-        x4: block_word(store, page, 4),
-        x5: block_word(store, page, 5),
-        x6: block_word(store, page, 6),
-        x7: block_word(store, page, 7),
-        x8: block_word(store, page, 8),
-        x9: block_word(store, page, 9),
-        x10: block_word(store, page, 10),
-        x11: block_word(store, page, 11),
-        x12: block_word(store, page, 12),
-        x13: block_word(store, page, 13),
-        x14: block_word(store, page, 14),
-        x15: block_word(store, page, 15),
-        x16: block_word(store, page, 16),
-        x17: block_word(store, page, 17),
-        x18: block_word(store, page, 18),
-        x19: block_word(store, page, 19),
-        x20: block_word(store, page, 20),
-        x21: block_word(store, page, 21),
-        x22: block_word(store, page, 22),
-        x23: block_word(store, page, 23),
-        x24: block_word(store, page, 24),
-        x25: block_word(store, page, 25),
-        x26: block_word(store, page, 26),
-        x27: block_word(store, page, 27),
-        x28: block_word(store, page, 28),
-        x29: block_word(store, page, 29),
-        x30: block_word(store, page, 30),
-        x31: block_word(store, page, 31),
+        pc: block_word(store, page, 0),
+        x: read_x(store, page),
         mode,
-        mstatus,
-        mtvec,
-        mepc,
+        mstatus: block_word(store, page, 33),
+        mtvec: block_word(store, page, 34),
+        mepc: block_word(store, page, 35),
         mcause: block_word(store, page, 36),
         mtval: block_word(store, page, 37),
         mscratch: block_word(store, page, 38),
-        medeleg,
-        mideleg,
-        mie,
-        mip,
-        stvec,
-        sepc,
+        medeleg: block_word(store, page, 39),
+        mideleg: block_word(store, page, 40),
+        mie: block_word(store, page, 41),
+        mip: block_word(store, page, 42),
+        stvec: block_word(store, page, 43),
+        sepc: block_word(store, page, 44),
         scause: block_word(store, page, 45),
         stval: block_word(store, page, 46),
         sscratch: block_word(store, page, 47),
-        satp,
+        satp: block_word(store, page, 48),
         next: if next == 0 { None } else { Some(next) },
     })
+}
+
+// Whether a hart can have the registers in a block.
+#[tactic(auto, using(crate::proofs::Fits::fits_hart_tells))]
+fn is_of_hart(store: &Store, page: u32) -> bool
+    requires { page < page_count store.now }
+    ensures is { result ≡ fits_hart (regs_at store.now page) }
+    ensures fits { result ≡ true → FitsHart (regs_at store.now page) }
+{
+    let mode = block_word(store, page, 32);
+    let mstatus = block_word(store, page, 33);
+    if block_word(store, page, 0) % 4 != 0 || mode > 3 || mode == 2 {
+        return false;
+    }
+    if !is_inside(mstatus, MSTATUS_MASK) || field::<MPP, MPP_BITS>(mstatus) == 2 {
+        return false;
+    }
+    if block_word(store, page, 34) % 4 > 1 || block_word(store, page, 35) % 4 != 0 {
+        return false;
+    }
+    if !is_inside(block_word(store, page, 39), MEDELEG_MASK)
+        || !is_inside(block_word(store, page, 40), MIDELEG_MASK)
+    {
+        return false;
+    }
+    if !is_inside(block_word(store, page, 41), MIE_MASK)
+        || !is_inside(block_word(store, page, 42), MIP_MASK)
+    {
+        return false;
+    }
+    block_word(store, page, 43) % 4 < 2
+        && block_word(store, page, 44) % 4 == 0
+        && is_inside(block_word(store, page, 48), SATP_MASK)
+}
+
+// Whether a word has no bits but those of a mask.
+fn is_inside(word: u32, mask: u32) -> bool
+    ensures { result ≡ (bit_and word mask == word) }
+{
+    word & mask == word
+}
+
+// x0 to x31 in a block.
+fn read_x(store: &Store, page: u32) -> [u32; 32]
+    requires { page < page_count store.now }
+    ensures { result ≡ file_of (regs_at store.now page) }
+{
+    let mut x = [0; 32];
+    for i in 1..32u32 {
+        x[i as usize] = block_word(store, page, i);
+    }
+    x
 }
 
 /// Writes the registers into the control block in bare page `page`: words 0 to 48 and 64, and no other.

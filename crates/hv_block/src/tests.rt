@@ -55,7 +55,7 @@ fn a_block_says_its_machine(rt: HostRuntime) -> Result<(), Fail> {
     let found = block(&store).ok_or("no block")?;
     assert_eq!(rt; (found.pages, found.table, found.version), (4, 2, 2));
     assert_eq!(rt;
-        (found.cpu.pc, found.cpu.x1, found.cpu.x31),
+        (found.cpu.pc, found.cpu.x(1), found.cpu.x(31)),
         (0x1000, 11, 41)
     );
     assert_eq!(rt; (found.cpu.mode, found.cpu.next), (Mode::S, Some(3)));
@@ -138,14 +138,14 @@ fn the_edges_of_a_block_are_taken(rt: HostRuntime) -> Result<(), Fail> {
 fn registers_and_faults_are_put(rt: HostRuntime) -> Result<(), Fail> {
     let kept = [(49, 9), (63, 9), (64, 9), (65, 10), (71, 9), (75, 9)];
     let mut store = storage(rt.alloc(), kept.as_slice())?;
-    let cpu = Cpu {
+    let mut cpu = Cpu {
         pc: 8,
-        x5: 55,
         mode: Mode::M,
         satp: 7,
         next: None,
         ..reset()
     };
+    cpu.set_x(5, 55);
     assert_eq!(rt; store.pages(), 2);
     write_cpu(&mut store, 1, &cpu);
     assert_eq!(rt; store.pages(), 2);

@@ -1,3 +1,4 @@
+pub mod Arrays
 pub mod Lines
 pub mod Masks
 pub mod Modes

@@ -60,7 +60,7 @@ pub record Regs : Type 0 where
 -- what the registers always keep: the program counter and the places to return to lie on words, each control
 -- register is inside its mask, a trap vector has one of the two modes, and no reserved mode stands anywhere
 -- (Privileged Architecture, sections 1.2, 3.1.6 to 3.1.9, 3.1.14, 4.1.1 to 4.1.11)
-pub record IsKept (r : Regs) : Type 0 where
+pub record FitsHart (r : Regs) : Type 0 where
   pub aligned : r.pc % 4 ≡ 0
   pub mode_fits : r.mode < 4
   pub mode_real : r.mode ≢ 2
@@ -133,7 +133,10 @@ reset_regs = record {
 
 -- x0 to x31, where x0 is always 0 (Unprivileged ISA, section 2.1)
 abbrev pub file_of : Regs → List ℕ
-file_of r = 0 ∷ r.x1 ∷ r.x2 ∷ r.x3 ∷ r.x4 ∷ r.x5 ∷ r.x6 ∷ r.x7 ∷ r.x8 ∷ r.x9 ∷ r.x10 ∷ r.x11 ∷ r.x12 ∷ r.x13 ∷ r.x14 ∷ r.x15 ∷ r.x16 ∷ r.x17 ∷ r.x18 ∷ r.x19 ∷ r.x20 ∷ r.x21 ∷ r.x22 ∷ r.x23 ∷ r.x24 ∷ r.x25 ∷ r.x26 ∷ r.x27 ∷ r.x28 ∷ r.x29 ∷ r.x30 ∷ r.x31 ∷ []
+file_of r =
+    0 ∷ r.x1 ∷ r.x2 ∷ r.x3 ∷ r.x4 ∷ r.x5 ∷ r.x6 ∷ r.x7 ∷ r.x8 ∷ r.x9 ∷ r.x10 ∷ r.x11 ∷ r.x12 ∷
+    r.x13 ∷ r.x14 ∷ r.x15 ∷ r.x16 ∷ r.x17 ∷ r.x18 ∷ r.x19 ∷ r.x20 ∷ r.x21 ∷ r.x22 ∷ r.x23 ∷ r.x24 ∷
+    r.x25 ∷ r.x26 ∷ r.x27 ∷ r.x28 ∷ r.x29 ∷ r.x30 ∷ r.x31 ∷ []
 
 abbrev pub reg : Regs → ℕ → ℕ
 reg r i = slice_index (file_of r) i
@@ -176,4 +179,9 @@ with_reg r i v = record r {
 
 -- the 50 words in a fixed order, which are all that there is of a hart
 abbrev pub spelled : Regs → List ℕ
-spelled r = r.pc ∷ r.x1 ∷ r.x2 ∷ r.x3 ∷ r.x4 ∷ r.x5 ∷ r.x6 ∷ r.x7 ∷ r.x8 ∷ r.x9 ∷ r.x10 ∷ r.x11 ∷ r.x12 ∷ r.x13 ∷ r.x14 ∷ r.x15 ∷ r.x16 ∷ r.x17 ∷ r.x18 ∷ r.x19 ∷ r.x20 ∷ r.x21 ∷ r.x22 ∷ r.x23 ∷ r.x24 ∷ r.x25 ∷ r.x26 ∷ r.x27 ∷ r.x28 ∷ r.x29 ∷ r.x30 ∷ r.x31 ∷ r.mode ∷ r.mstatus ∷ r.mtvec ∷ r.mepc ∷ r.mcause ∷ r.mtval ∷ r.mscratch ∷ r.medeleg ∷ r.mideleg ∷ r.mie ∷ r.mip ∷ r.stvec ∷ r.sepc ∷ r.scause ∷ r.stval ∷ r.sscratch ∷ r.satp ∷ r.next ∷ []
+spelled r =
+    r.pc ∷ r.x1 ∷ r.x2 ∷ r.x3 ∷ r.x4 ∷ r.x5 ∷ r.x6 ∷ r.x7 ∷ r.x8 ∷ r.x9 ∷ r.x10 ∷ r.x11 ∷ r.x12 ∷
+    r.x13 ∷ r.x14 ∷ r.x15 ∷ r.x16 ∷ r.x17 ∷ r.x18 ∷ r.x19 ∷ r.x20 ∷ r.x21 ∷ r.x22 ∷ r.x23 ∷ r.x24 ∷
+    r.x25 ∷ r.x26 ∷ r.x27 ∷ r.x28 ∷ r.x29 ∷ r.x30 ∷ r.x31 ∷ r.mode ∷ r.mstatus ∷ r.mtvec ∷ r.mepc ∷
+    r.mcause ∷ r.mtval ∷ r.mscratch ∷ r.medeleg ∷ r.mideleg ∷ r.mie ∷ r.mip ∷ r.stvec ∷ r.sepc ∷
+    r.scause ∷ r.stval ∷ r.sscratch ∷ r.satp ∷ r.next ∷ []

@@ -1,6 +1,6 @@
 -- How a Cpu is read as 50 words, and made of them again.
-use Rattle.std.specs.Prelude.{◌≢◌, ℕ, zero, suc, Option, Some, None}
-use Rattle.hv_cpu.specs.Regs.{Regs, IsKept}
+use Rattle.std.specs.Prelude.{◌≡◌, ◌≢◌, ℕ, zero, suc, Option, Some, None, length, slice_index}
+use Rattle.hv_cpu.specs.Regs.{Regs, FitsHart, file_of}
 use Rattle.hv_cpu.specs.Modes.{mode_word, mode_of}
 use Rattle.hv_cpu.specs.declared.Cpu.TheInside.{Inside}
 
@@ -15,37 +15,37 @@ next_of (suc n) = Some (suc n)
 abbrev pub regs_of : Inside → Regs
 regs_of a = record {
   pc = a.pc;
-  x1 = a.x1;
-  x2 = a.x2;
-  x3 = a.x3;
-  x4 = a.x4;
-  x5 = a.x5;
-  x6 = a.x6;
-  x7 = a.x7;
-  x8 = a.x8;
-  x9 = a.x9;
-  x10 = a.x10;
-  x11 = a.x11;
-  x12 = a.x12;
-  x13 = a.x13;
-  x14 = a.x14;
-  x15 = a.x15;
-  x16 = a.x16;
-  x17 = a.x17;
-  x18 = a.x18;
-  x19 = a.x19;
-  x20 = a.x20;
-  x21 = a.x21;
-  x22 = a.x22;
-  x23 = a.x23;
-  x24 = a.x24;
-  x25 = a.x25;
-  x26 = a.x26;
-  x27 = a.x27;
-  x28 = a.x28;
-  x29 = a.x29;
-  x30 = a.x30;
-  x31 = a.x31;
+  x1 = slice_index a.x 1;
+  x2 = slice_index a.x 2;
+  x3 = slice_index a.x 3;
+  x4 = slice_index a.x 4;
+  x5 = slice_index a.x 5;
+  x6 = slice_index a.x 6;
+  x7 = slice_index a.x 7;
+  x8 = slice_index a.x 8;
+  x9 = slice_index a.x 9;
+  x10 = slice_index a.x 10;
+  x11 = slice_index a.x 11;
+  x12 = slice_index a.x 12;
+  x13 = slice_index a.x 13;
+  x14 = slice_index a.x 14;
+  x15 = slice_index a.x 15;
+  x16 = slice_index a.x 16;
+  x17 = slice_index a.x 17;
+  x18 = slice_index a.x 18;
+  x19 = slice_index a.x 19;
+  x20 = slice_index a.x 20;
+  x21 = slice_index a.x 21;
+  x22 = slice_index a.x 22;
+  x23 = slice_index a.x 23;
+  x24 = slice_index a.x 24;
+  x25 = slice_index a.x 25;
+  x26 = slice_index a.x 26;
+  x27 = slice_index a.x 27;
+  x28 = slice_index a.x 28;
+  x29 = slice_index a.x 29;
+  x30 = slice_index a.x 30;
+  x31 = slice_index a.x 31;
   mode = mode_word a.mode;
   mstatus = a.mstatus;
   mtvec = a.mtvec;
@@ -69,37 +69,7 @@ regs_of a = record {
 abbrev pub inside : Regs → Inside
 inside r = record {
   pc = r.pc;
-  x1 = r.x1;
-  x2 = r.x2;
-  x3 = r.x3;
-  x4 = r.x4;
-  x5 = r.x5;
-  x6 = r.x6;
-  x7 = r.x7;
-  x8 = r.x8;
-  x9 = r.x9;
-  x10 = r.x10;
-  x11 = r.x11;
-  x12 = r.x12;
-  x13 = r.x13;
-  x14 = r.x14;
-  x15 = r.x15;
-  x16 = r.x16;
-  x17 = r.x17;
-  x18 = r.x18;
-  x19 = r.x19;
-  x20 = r.x20;
-  x21 = r.x21;
-  x22 = r.x22;
-  x23 = r.x23;
-  x24 = r.x24;
-  x25 = r.x25;
-  x26 = r.x26;
-  x27 = r.x27;
-  x28 = r.x28;
-  x29 = r.x29;
-  x30 = r.x30;
-  x31 = r.x31;
+  x = file_of r;
   mode = mode_of r.mode;
   mstatus = r.mstatus;
   mtvec = r.mtvec;
@@ -120,7 +90,9 @@ inside r = record {
   next = next_of r.next;
 }
 
--- page 0 is never a machine to run: its number stands for none
+-- x0 is 0, and page 0 is never a machine to run: its number stands for none
 pub record Inv (a : Inside) : Type 0 where
-  pub kept : IsKept (regs_of a)
+  pub kept : FitsHart (regs_of a)
   pub no_zero : a.next ≢ Some 0
+  pub count : length a.x ≡ 32
+  pub zero : slice_index a.x 0 ≡ 0

@@ -1,11 +1,12 @@
 //! The registers of a hart.
 #![tactic(auto)]
 
-ghost use Rattle.std.specs.Prelude.{◌≡◌, ◌<◌, ◌==◌, ◌||◌, ◌⊎◌, nat_lt, IfSome, IfNone};
+ghost use Rattle.std.specs.Prelude.{◌≡◌, ◌<◌, ◌==◌, ◌||◌, ◌⊎◌, nat_lt, drop, IfSome, IfNone};
 ghost use Rattle.hv_cpu.specs.Modes.{mode_word};
 ghost use Rattle.hv_cpu.specs.Regs.{reset_regs, reg, with_reg, spelled};
 
 mod interrupts;
+pub mod mstatus;
 
 pub use interrupts::Interrupts;
 use std::marker::Model;
@@ -63,37 +64,8 @@ impl Mode {
 #[derive(Clone, Copy, Debug)]
 pub struct Cpu {
     pub pc: u32,
-    pub x1: u32,
-    pub x2: u32,
-    pub x3: u32,
-    pub x4: u32,
-    pub x5: u32,
-    pub x6: u32,
-    pub x7: u32,
-    pub x8: u32,
-    pub x9: u32,
-    pub x10: u32,
-    pub x11: u32,
-    pub x12: u32,
-    pub x13: u32,
-    pub x14: u32,
-    pub x15: u32,
-    pub x16: u32,
-    pub x17: u32,
-    pub x18: u32,
-    pub x19: u32,
-    pub x20: u32,
-    pub x21: u32,
-    pub x22: u32,
-    pub x23: u32,
-    pub x24: u32,
-    pub x25: u32,
-    pub x26: u32,
-    pub x27: u32,
-    pub x28: u32,
-    pub x29: u32,
-    pub x30: u32,
-    pub x31: u32,
+    /// x0 to x31; x0 is always 0.
+    pub x: [u32; 32],
     pub mode: Mode,
     pub mstatus: u32,
     pub mtvec: u32,
@@ -120,12 +92,15 @@ impl Model for Cpu {
     ghost Value = { Regs };
 
     ghost use Rattle.hv_cpu.specs.View.{regs_of, Inv, inside};
+    ghost use Rattle.hv_cpu.specs.Arrays.{inside_is};
 
     ghost view = { regs_of };
 
     ghost invariant = { Inv };
 
     ghost inverse = { inside };
+
+    ghost inverse_ok = { inside_is };
 }
 
 /// A hart as it starts: all registers zero, in mode M, with no machine to run.
@@ -134,37 +109,7 @@ pub fn reset() -> Cpu
 {
     Cpu {
         pc: 0,
-        x1: 0,
-        x2: 0,
-        x3: 0,
-        x4: 0,
-        x5: 0,
-        x6: 0,
-        x7: 0,
-        x8: 0,
-        x9: 0,
-        x10: 0,
-        x11: 0,
-        x12: 0,
-        x13: 0,
-        x14: 0,
-        x15: 0,
-        x16: 0,
-        x17: 0,
-        x18: 0,
-        x19: 0,
-        x20: 0,
-        x21: 0,
-        x22: 0,
-        x23: 0,
-        x24: 0,
-        x25: 0,
-        x26: 0,
-        x27: 0,
-        x28: 0,
-        x29: 0,
-        x30: 0,
-        x31: 0,
+        x: [0; 32],
         mode: Mode::M,
         mstatus: 0,
         mtvec: 0,
@@ -188,90 +133,26 @@ pub fn reset() -> Cpu
 
 impl Cpu {
     /// Register `i` of x0 to x31; x0 is always 0.
+    #[inline(always)]
     pub fn x(&self, i: u8) -> u32
         requires { i < 32 }
         ensures { result ≡ reg self.now i }
     {
-        match i {
-            0 => 0,
-            1 => self.x1,
-            2 => self.x2,
-            3 => self.x3,
-            4 => self.x4,
-            5 => self.x5,
-            6 => self.x6,
-            7 => self.x7,
-            8 => self.x8,
-            9 => self.x9,
-            10 => self.x10,
-            11 => self.x11,
-            12 => self.x12,
-            13 => self.x13,
-            14 => self.x14,
-            15 => self.x15,
-            16 => self.x16,
-            17 => self.x17,
-            18 => self.x18,
-            19 => self.x19,
-            20 => self.x20,
-            21 => self.x21,
-            22 => self.x22,
-            23 => self.x23,
-            24 => self.x24,
-            25 => self.x25,
-            26 => self.x26,
-            27 => self.x27,
-            28 => self.x28,
-            29 => self.x29,
-            30 => self.x30,
-            31 => self.x31,
-            _ => unreachable!(),
-        }
+        self.x[i as usize]
     }
 
     /// Writes register `i` of x0 to x31; what is written to x0 is lost.
+    #[inline(always)]
     pub fn set_x(&mut self, i: u8, value: u32)
         requires { i < 32 }
         ensures { self.new ≡ with_reg self.old i value }
     {
-        match i {
-            0 => {}
-            1 => self.x1 = value,
-            2 => self.x2 = value,
-            3 => self.x3 = value,
-            4 => self.x4 = value,
-            5 => self.x5 = value,
-            6 => self.x6 = value,
-            7 => self.x7 = value,
-            8 => self.x8 = value,
-            9 => self.x9 = value,
-            10 => self.x10 = value,
-            11 => self.x11 = value,
-            12 => self.x12 = value,
-            13 => self.x13 = value,
-            14 => self.x14 = value,
-            15 => self.x15 = value,
-            16 => self.x16 = value,
-            17 => self.x17 = value,
-            18 => self.x18 = value,
-            19 => self.x19 = value,
-            20 => self.x20 = value,
-            21 => self.x21 = value,
-            22 => self.x22 = value,
-            23 => self.x23 = value,
-            24 => self.x24 = value,
-            25 => self.x25 = value,
-            26 => self.x26 = value,
-            27 => self.x27 = value,
-            28 => self.x28 = value,
-            29 => self.x29 = value,
-            30 => self.x30 = value,
-            31 => self.x31 = value,
-            _ => unreachable!(),
-        }
+        self.x[i as usize] = value;
+        self.x[0] = 0;
     }
 
     /// Whether there is no machine to run, or one on a page below `pages`.
+    #[inline(always)]
     pub fn well_formed(&self, pages: u32) -> bool
         ensures { result ≡ ((self.now.next == 0) || nat_lt self.now.next pages) }
     {
@@ -283,39 +164,18 @@ impl Cpu {
     pub fn words(&self) -> [u32; 50]
         ensures { result ≡ spelled self.now }
     {
+        let mut words = [0; 50];
+        words[0] = self.pc;
+        words[1..32].copy_from_slice(&self.x[1..]);
+        words[32..].copy_from_slice(&self.control_words());
+        words
+    }
+
+    // The words behind x31: the mode, the control registers and `next`.
+    fn control_words(&self) -> [u32; 18]
+        ensures { result ≡ drop 32 (spelled self.now) }
+    {
         [
-            self.pc,
-            self.x1,
-            self.x2,
-            self.x3,
-            self.x4,
-            self.x5,
-            self.x6,
-            self.x7,
-            self.x8,
-            self.x9,
-            self.x10,
-            self.x11,
-            self.x12,
-            self.x13,
-            self.x14,
-            self.x15,
-            self.x16,
-            self.x17,
-            self.x18,
-            self.x19,
-            self.x20,
-            self.x21,
-            self.x22,
-            self.x23,
-            self.x24,
-            self.x25,
-            self.x26,
-            self.x27,
-            self.x28,
-            self.x29,
-            self.x30,
-            self.x31,
             self.mode.word(),
             self.mstatus,
             self.mtvec,
@@ -352,7 +212,7 @@ mod tests {
         assert_eq!(rt; cpu.x(0), 0);
         assert_eq!(rt; cpu.x(1), 8);
         assert_eq!(rt; cpu.x(31), 9);
-        assert_eq!(rt; cpu.x31, 9);
+        assert_eq!(rt; cpu.words()[31], 9);
     }
 
     #[test]

@@ -1,4 +1,5 @@
 pub mod Access
 pub mod Interrupts
+pub mod Laws
 pub mod Table
 pub mod Traps

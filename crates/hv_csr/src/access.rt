@@ -5,6 +5,7 @@ ghost use Rattle.std.specs.Result.{result_ok};
 ghost use Rattle.hv_csr.specs.Access.{csr_read_of, csr_write_of, is_barred, is_read_only, left_by};
 
 use crate::csr::Csr;
+use hv_cpu::mstatus::TVM;
 use hv_cpu::{Cpu, Mode};
 use hv_word::field;
 
@@ -43,7 +44,7 @@ fn barred(cpu: &Cpu, number: u32) -> bool
     ensures { result ≡ is_barred cpu.now number }
 {
     cpu.mode.word() < field::<8, 2>(number)
-        || (number == 0x180 && cpu.mode == Mode::S && field::<20, 1>(cpu.mstatus) == 1)
+        || (number == 0x180 && cpu.mode == Mode::S && field::<TVM, 1>(cpu.mstatus) == 1)
 }
 
 // Whether the register can only be read.

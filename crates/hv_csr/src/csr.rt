@@ -84,41 +84,6 @@ impl Csr {
         }
     }
 
-    /// The name in the manual, as in `mstatus`.
-    pub fn name(self) -> &'static str
-        ensures { result.now ≡ (row_of self).name }
-    {
-        match self {
-            Csr::Sstatus => "sstatus",
-            Csr::Sie => "sie",
-            Csr::Stvec => "stvec",
-            Csr::Scounteren => "scounteren",
-            Csr::Sscratch => "sscratch",
-            Csr::Sepc => "sepc",
-            Csr::Scause => "scause",
-            Csr::Stval => "stval",
-            Csr::Sip => "sip",
-            Csr::Satp => "satp",
-            Csr::Mstatus => "mstatus",
-            Csr::Misa => "misa",
-            Csr::Medeleg => "medeleg",
-            Csr::Mideleg => "mideleg",
-            Csr::Mie => "mie",
-            Csr::Mtvec => "mtvec",
-            Csr::Mcounteren => "mcounteren",
-            Csr::Mstatush => "mstatush",
-            Csr::Mscratch => "mscratch",
-            Csr::Mepc => "mepc",
-            Csr::Mcause => "mcause",
-            Csr::Mtval => "mtval",
-            Csr::Mip => "mip",
-            Csr::Mvendorid => "mvendorid",
-            Csr::Marchid => "marchid",
-            Csr::Mimpid => "mimpid",
-            Csr::Mhartid => "mhartid",
-        }
-    }
-
     /// What is read from it on the hart with number `hart`.
     pub fn read(self, cpu: &Cpu, hart: u32) -> u32
         ensures { result ≡ (row_of self).read cpu.now hart }
@@ -127,7 +92,6 @@ impl Csr {
             Csr::Sstatus => cpu.mstatus & SSTATUS_MASK,
             Csr::Sie => cpu.mie & cpu.mideleg,
             Csr::Stvec => cpu.stvec,
-            Csr::Scounteren => 0,
             Csr::Sscratch => cpu.sscratch,
             Csr::Sepc => cpu.sepc,
             Csr::Scause => cpu.scause,
@@ -140,17 +104,14 @@ impl Csr {
             Csr::Mideleg => cpu.mideleg,
             Csr::Mie => cpu.mie,
             Csr::Mtvec => cpu.mtvec,
-            Csr::Mcounteren => 0,
-            Csr::Mstatush => 0,
             Csr::Mscratch => cpu.mscratch,
             Csr::Mepc => cpu.mepc,
             Csr::Mcause => cpu.mcause,
             Csr::Mtval => cpu.mtval,
             Csr::Mip => cpu.mip,
-            Csr::Mvendorid => 0,
-            Csr::Marchid => 0,
-            Csr::Mimpid => 0,
             Csr::Mhartid => hart,
+            // those without a state
+            _ => 0,
         }
     }
 
@@ -179,14 +140,8 @@ impl Csr {
             Csr::Mcause => cpu.mcause = value,
             Csr::Mtval => cpu.mtval = value,
             Csr::Mip => cpu.mip = merged(cpu.mip, MIDELEG_MASK, value),
-            Csr::Scounteren => {}
-            Csr::Misa => {}
-            Csr::Mcounteren => {}
-            Csr::Mstatush => {}
-            Csr::Mvendorid => {}
-            Csr::Marchid => {}
-            Csr::Mimpid => {}
-            Csr::Mhartid => {}
+            // those that only tell something
+            _ => {}
         }
     }
 }

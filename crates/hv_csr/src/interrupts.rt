@@ -5,12 +5,14 @@ ghost use Rattle.std.specs.Int.RustNames.{bit_and};
 ghost use Rattle.hv_csr.specs.Interrupts.{among, by_urgency, first_in, is_open_m, is_open_s, pending_of};
 
 use bitflags::Flags;
+use hv_cpu::mstatus::{MIE, SIE};
 use hv_cpu::{Cpu, Interrupts, Mode};
 use hv_word::field;
 
 /// The number of the interrupt to take: the most urgent that isn't delegated, else the most urgent
 /// delegated one, of those that are pending, enabled, and not held back by the mode. None where there
 /// is none.
+#[inline(always)]
 pub fn pending(cpu: &Cpu) -> Option<u32>
     ensures takes { result ≡ pending_of cpu.now }
     ensures within { IfSome result (λ k. k < 16) }
@@ -65,7 +67,7 @@ fn most_urgent(set: u32) -> Option<u32>
 fn takes_own(cpu: &Cpu) -> bool
     ensures { result ≡ is_open_m cpu.now }
 {
-    cpu.mode != Mode::M || field::<3, 1>(cpu.mstatus) == 1
+    cpu.mode != Mode::M || field::<MIE, 1>(cpu.mstatus) == 1
 }
 
 // Whether a delegated interrupt is taken: in U, and in S with SIE.
@@ -74,7 +76,7 @@ fn takes_delegated(cpu: &Cpu) -> bool
 {
     match cpu.mode {
         Mode::U => true,
-        Mode::S => field::<1, 1>(cpu.mstatus) == 1,
+        Mode::S => field::<SIE, 1>(cpu.mstatus) == 1,
         Mode::M => false,
     }
 }

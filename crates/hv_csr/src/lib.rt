@@ -4,6 +4,7 @@
 mod access;
 mod csr;
 mod interrupts;
+pub mod laws;
 mod status;
 #[cfg(test)]
 mod tests;

@@ -8,6 +8,7 @@ ghost use Rattle.hv_csr.specs.Table.{status_of};
 ghost use Rattle.hv_csr.specs.Traps.{entered_m as entered_m_of, entered_s as entered_s_of, left_m as left_m_of, left_s as left_s_of, unprivileged as unprivileged_of};
 
 use hv_cpu::MSTATUS_MASK;
+use hv_cpu::mstatus::{MIE, MPIE, MPP, MPP_BITS, MPRV, SIE, SPIE, SPP};
 use hv_word::{field, field_set};
 
 // One field of mstatus that lies inside its mask, replaced by the low bits of `value`.
@@ -33,8 +34,8 @@ pub(crate) fn written(old: u32, value: u32) -> u32
     ensures mpp { field_of result 11 2 ≢ 2 }
 {
     let kept = value & MSTATUS_MASK;
-    if field::<11, 2>(value) == 2 {
-        set_status::<11, 2>(kept, field::<11, 2>(old))
+    if field::<MPP, MPP_BITS>(value) == 2 {
+        set_status::<MPP, MPP_BITS>(kept, field::<MPP, MPP_BITS>(old))
     } else {
         kept
     }
@@ -49,9 +50,9 @@ pub(crate) fn entered_m(status: u32, mode: u32) -> u32
     ensures masked { bit_and result mstatus_mask ≡ result }
     ensures mpp { field_of result 11 2 ≢ 2 }
 {
-    let status = set_status::<7, 1>(status, field::<3, 1>(status));
-    let status = set_status::<3, 1>(status, 0);
-    set_status::<11, 2>(status, mode)
+    let status = set_status::<MPIE, 1>(status, field::<MIE, 1>(status));
+    let status = set_status::<MIE, 1>(status, 0);
+    set_status::<MPP, MPP_BITS>(status, mode)
 }
 
 // mstatus on entry to S from `mode`.
@@ -62,9 +63,9 @@ pub(crate) fn entered_s(status: u32, mode: u32) -> u32
     ensures masked { bit_and result mstatus_mask ≡ result }
     ensures mpp { field_of result 11 2 ≢ 2 }
 {
-    let status = set_status::<5, 1>(status, field::<1, 1>(status));
-    let status = set_status::<1, 1>(status, 0);
-    set_status::<8, 1>(status, mode)
+    let status = set_status::<SPIE, 1>(status, field::<SIE, 1>(status));
+    let status = set_status::<SIE, 1>(status, 0);
+    set_status::<SPP, 1>(status, mode)
 }
 
 // mstatus after a return from M.
@@ -74,9 +75,9 @@ pub(crate) fn left_m(status: u32) -> u32
     ensures masked { bit_and result mstatus_mask ≡ result }
     ensures mpp { field_of result 11 2 ≢ 2 }
 {
-    let status = set_status::<3, 1>(status, field::<7, 1>(status));
-    let status = set_status::<7, 1>(status, 1);
-    set_status::<11, 2>(status, 0)
+    let status = set_status::<MIE, 1>(status, field::<MPIE, 1>(status));
+    let status = set_status::<MPIE, 1>(status, 1);
+    set_status::<MPP, MPP_BITS>(status, 0)
 }
 
 // mstatus after a return by SRET.
@@ -87,9 +88,9 @@ pub(crate) fn left_s(status: u32) -> u32
     ensures masked { bit_and result mstatus_mask ≡ result }
     ensures mpp { field_of result 11 2 ≢ 2 }
 {
-    let status = set_status::<1, 1>(status, field::<5, 1>(status));
-    let status = set_status::<5, 1>(status, 1);
-    set_status::<8, 1>(status, 0)
+    let status = set_status::<SIE, 1>(status, field::<SPIE, 1>(status));
+    let status = set_status::<SPIE, 1>(status, 1);
+    set_status::<SPP, 1>(status, 0)
 }
 
 // mstatus after a return to `mode`: below M, MPRV is cleared.
@@ -101,7 +102,7 @@ pub(crate) fn unprivileged(status: u32, mode: u32) -> u32
     ensures mpp { field_of result 11 2 ≢ 2 }
 {
     if mode < 3 {
-        set_status::<17, 1>(status, 0)
+        set_status::<MPRV, 1>(status, 0)
     } else {
         status
     }

@@ -45,7 +45,6 @@ fn unknown_and_read_only_numbers_are_illegal(rt: HostRuntime) {
     cpu.mode = Mode::S;
     assert_eq!(rt; csr_read(&cpu, 0, 0x300), Err(Illegal));
     assert_eq!(rt; csr_read(&cpu, 0, 0x100), Ok(0));
-    assert_eq!(rt; Csr::find(0x305).map(|csr| csr.name()), Some("mtvec"));
 }
 
 #[test]

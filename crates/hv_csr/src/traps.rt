@@ -8,6 +8,7 @@ ghost use Rattle.hv_csr.specs.Traps.{goes_down, cause_word as cause_word_of, ent
 
 use crate::access::Illegal;
 use crate::status;
+use hv_cpu::mstatus::{MPP, MPP_BITS, SPP, TSR};
 use hv_cpu::{Cpu, Mode};
 use hv_word::field;
 
@@ -43,7 +44,7 @@ pub fn mret(cpu: &mut Cpu) -> Result<(), Illegal>
     if cpu.mode != Mode::M {
         return Err(Illegal);
     }
-    let mode = field::<11, 2>(cpu.mstatus);
+    let mode = field::<MPP, MPP_BITS>(cpu.mstatus);
     cpu.mstatus = status::unprivileged(status::left_m(cpu.mstatus), mode);
     cpu.mode = named(mode);
     cpu.pc = cpu.mepc;
@@ -59,7 +60,7 @@ pub fn sret(cpu: &mut Cpu) -> Result<(), Illegal>
     if !may_sret(cpu) {
         return Err(Illegal);
     }
-    let mode = field::<8, 1>(cpu.mstatus);
+    let mode = field::<SPP, 1>(cpu.mstatus);
     cpu.mstatus = status::unprivileged(status::left_s(cpu.mstatus), mode);
     cpu.mode = named(mode);
     cpu.pc = cpu.sepc;
@@ -124,7 +125,7 @@ fn may_sret(cpu: &Cpu) -> bool
 {
     match cpu.mode {
         Mode::U => false,
-        Mode::S => field::<22, 1>(cpu.mstatus) == 0,
+        Mode::S => field::<TSR, 1>(cpu.mstatus) == 0,
         Mode::M => true,
     }
 }

@@ -4,7 +4,7 @@ use Rattle.std.specs.Prelude.{slice_get}
 use Rattle.std.specs.Option.{option_and_then}
 use Rattle.std.proofs.lemmas.List.{flat_map_more, take_more}
 use Rattle.std.proofs.lemmas.Option.{get_or_from_slice_get, slice_get_within}
-use Rattle.hv_apart.proofs.Machines.{pinned_own}
+use Rattle.hv_map.proofs.Machines.{pinned_own}
 use Rattle.hv_map.specs.Chain.{pin_of}
 use Rattle.hv_map.specs.Item.{Item}
 use Rattle.hv_map.specs.Links.{syllable_of}

@@ -52,8 +52,8 @@ store_at S F r address width v (Found page offset) =
 store_at S F r address width v (TrapWith cause tval) = trapped S r cause tval
 store_at S F r address width v (RefusedBy e) = Refused e
 
--- The machine whose block is in page `page` is to run from the next step on, with no fault told in its block. A page that
--- isn't there is an access fault of a store. The page is named as this machine numbers its pages.
+-- The machine whose block is in page `page` is to run from the next step on, with no fault told in its block. A page
+-- that isn't there is an access fault of a store. The page is named as this machine numbers its pages.
 abbrev pub entered : List ℕ → Regs → ℕ → ℕ → Option (Result (List ℕ) Refusal) → Acted
 entered S r value page None = trapped S r 7 value
 entered S r value page (Some (Err e)) = Refused e

@@ -4,7 +4,8 @@ use Rattle.hv_cpu.specs.Regs.{Regs, with_reg}
 use Rattle.hv_exec.specs.Arithmetic.{sum_of}
 use Rattle.hv_exec.specs.declared.answer.Width.{Width}
 use Rattle.hv_exec.specs.declared.answer.Task.{Task}
-use Rattle.hv_exec.specs.declared.answer.Task.TheVariants.{Done as DoneTask, Trap as TrapTask, Load as LoadTask, Store as StoreTask, Enter as EnterTask}
+use Rattle.hv_exec.specs.declared.answer.Task.TheVariants.{Done as DoneTask, Trap as TrapTask, Load as LoadTask}
+use Rattle.hv_exec.specs.declared.answer.Task.TheVariants.{Store as StoreTask, Enter as EnterTask}
 
 pub data Answer : Type 0 where
   -- the registers after it, with the program counter already on the next instruction or on the jump's target

@@ -1,5 +1,6 @@
 -- How few words one instruction changes.
-use Rattle.std.specs.Prelude.{◌≡◌, ℕ, ◌+◌, ◌/◌, ◌≤◌, Bool, true, false, ◌==◌, ◌||◌, if◌then◌else◌, List, [], ◌∷◌, length, slice_index}
+use Rattle.std.specs.Prelude.{◌≡◌, ℕ, ◌+◌, ◌/◌, ◌≤◌, Bool, true, false, ◌==◌, ◌||◌, if◌then◌else◌, List, [], ◌∷◌}
+use Rattle.std.specs.Prelude.{length, slice_index}
 use Rattle.std.specs.List.{list_any}
 use Rattle.hv_cpu.specs.Regs.{Regs, spelled}
 use Rattle.hv_store.specs.declared.access.Slot.{Slot}
@@ -36,8 +37,8 @@ leads_to g (Shut l c p w) = false
 abbrev pub opens_for_writing : List Slot → ℕ → Bool
 opens_for_writing F g = list_any (λ (s : Slot). leads_to g s.write) F
 
--- Six words are changed at most, of the storage and the registers together, and of the storage only words of bare pages that
--- the machine may write.
+-- Six words are changed at most, of the storage and the registers together, and of the storage only words of bare pages
+-- that the machine may write.
 abbrev pub ChangesFew : List ℕ → List Slot → Regs → Acted → Type 0
 ChangesFew S F r (Refused e) = Unit {0}
 ChangesFew S F r (Done T q) =

@@ -1,13 +1,19 @@
--- What each instruction does (Unprivileged ISA, chapters 2, 3 and 9; Privileged Architecture, sections 3.1.6, 3.3 and 4.2).
+-- What each instruction does (Unprivileged ISA, chapters 2, 3 and 9; Privileged Architecture, sections 3.1.6, 3.3
+-- and 4.2).
 use Rattle.std.specs.Prelude.{ℕ, ◌==◌, not, nat_lt, true, false, bit_and, bit_or, bit_xor}
 use Rattle.hv_cpu.specs.Regs.{Regs, reg}
 use Rattle.hv_isa.specs.declared.Instr.{Instr}
 use Rattle.hv_isa.specs.declared.Op.{Op}
-use Rattle.hv_isa.specs.declared.Op.TheVariants.{Lui, Auipc, Jal, Jalr, Beq, Bne, Blt, Bge, Bltu, Bgeu, Lb, Lh, Lw, Lbu, Lhu, Sb, Sh, Sw, Addi, Slti, Sltiu, Xori, Ori, Andi, Slli, Srli, Srai, Add, Sub, Sll, Slt, Sltu, Xor, Srl, Sra, Or, And, Fence, FenceI, Ecall, Ebreak, Csrrw, Csrrs, Csrrc, Csrrwi, Csrrsi, Csrrci, Sret, Mret, Wfi, SfenceVma, Vmenter}
+use Rattle.hv_isa.specs.declared.Op.TheVariants.{Lui, Auipc, Jal, Jalr, Beq, Bne, Blt, Bge, Bltu, Bgeu, Lb, Lh, Lw, Lbu}
+use Rattle.hv_isa.specs.declared.Op.TheVariants.{Lhu, Sb, Sh, Sw, Addi, Slti, Sltiu, Xori, Ori, Andi, Slli, Srli, Srai}
+use Rattle.hv_isa.specs.declared.Op.TheVariants.{Add, Sub, Sll, Slt, Sltu, Xor, Srl, Sra, Or, And, Fence, FenceI, Ecall}
+use Rattle.hv_isa.specs.declared.Op.TheVariants.{Ebreak, Csrrw, Csrrs, Csrrc, Csrrwi, Csrrsi, Csrrci, Sret, Mret, Wfi}
+use Rattle.hv_isa.specs.declared.Op.TheVariants.{SfenceVma, Vmenter}
 use Rattle.hv_csr.specs.Traps.{mret_of, sret_of}
 use Rattle.hv_exec.specs.declared.answer.Width.TheVariants.{Byte, Half, Word}
 use Rattle.hv_exec.specs.declared.system.Update.TheVariants.{Replace, Set, Clear}
-use Rattle.hv_exec.specs.Arithmetic.{sum_of, difference_of, is_less_signed, flag_of, shift_left, shift_right, shift_right_signed, even_of}
+use Rattle.hv_exec.specs.Arithmetic.{sum_of, difference_of, is_less_signed, flag_of, shift_left, shift_right}
+use Rattle.hv_exec.specs.Arithmetic.{shift_right_signed, even_of}
 use Rattle.hv_exec.specs.Answer.{Answer, Next, Trap, advanced, given, passed, jumped, branched}
 use Rattle.hv_exec.specs.Memory.{loading, storing}
 use Rattle.hv_exec.specs.System.{csr_row, returned, may_wait, may_fence, called, entering}

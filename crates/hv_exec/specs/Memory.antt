@@ -1,4 +1,5 @@
--- Loads and stores (Unprivileged ISA, section 2.6). Storage is little-endian, and a misaligned access isn't carried out.
+-- Loads and stores (Unprivileged ISA, section 2.6). Storage is little-endian, and a misaligned access isn't carried
+-- out.
 use Rattle.std.specs.Prelude.{ℕ, ◌/◌, ◌%◌, ◌==◌, Bool, true, false, if◌then◌else◌}
 use Rattle.hv_word.specs.declared.Lane.{Lane}
 use Rattle.hv_word.specs.declared.Lane.TheVariants.{Byte, Half, Word}

@@ -40,6 +40,7 @@ pub(crate) enum Task {
 
 /// Goes on to the next instruction.
 #[tactic(auto, unfolding(crate::specs::Answer::advanced))]
+#[inline(always)]
 pub(crate) fn advance(cpu: &mut Cpu)
     ensures next { cpu.new.next ≡ cpu.old.next }
     ensures advances { cpu.new ≡ advanced cpu.old }
@@ -49,6 +50,7 @@ pub(crate) fn advance(cpu: &mut Cpu)
 
 /// Puts a value into register `rd` and goes on to the next instruction.
 #[tactic(auto, unfolding(crate::specs::Answer::given))]
+#[inline(always)]
 pub(crate) fn give(cpu: &mut Cpu, rd: u8, value: u32) -> Task
     requires { rd < 32 }
     ensures does { answered result cpu.new ≡ Next (given cpu.old rd value) }
@@ -62,6 +64,7 @@ pub(crate) fn give(cpu: &mut Cpu, rd: u8, value: u32) -> Task
 }
 
 /// An illegal instruction, whose word is `word`.
+#[inline(always)]
 pub(crate) fn illegal(word: u32) -> Task
     ensures { result ≡ TrapTask 2 word }
 {
@@ -72,6 +75,7 @@ pub(crate) fn illegal(word: u32) -> Task
 }
 
 /// Goes on where that is allowed; else the instruction is illegal.
+#[inline(always)]
 pub(crate) fn pass(cpu: &mut Cpu, allowed: bool, word: u32) -> Task
     ensures does { answered result cpu.new ≡ passed allowed word cpu.old }
     ensures keeps { KeepsUnlessDone result cpu.old cpu.new }
@@ -87,6 +91,7 @@ pub(crate) fn pass(cpu: &mut Cpu, allowed: bool, word: u32) -> Task
 
 /// Jumps to `target`, with the address of the next instruction in register `rd`.
 #[tactic(auto, unfolding(crate::specs::Answer::jumped))]
+#[inline(always)]
 pub(crate) fn jump(cpu: &mut Cpu, rd: u8, target: u32) -> Task
     requires { rd < 32 }
     ensures does { answered result cpu.new ≡ jumped cpu.old rd target }
@@ -104,6 +109,7 @@ pub(crate) fn jump(cpu: &mut Cpu, rd: u8, target: u32) -> Task
 
 /// Jumps to `target` where the branch is taken, and else goes on.
 #[tactic(auto, unfolding(crate::specs::Answer::branched))]
+#[inline(always)]
 pub(crate) fn branch(cpu: &mut Cpu, taken: bool, target: u32) -> Task
     ensures does { answered result cpu.new ≡ branched cpu.old taken target }
     ensures keeps { KeepsUnlessDone result cpu.old cpu.new }
@@ -122,6 +128,7 @@ pub(crate) fn branch(cpu: &mut Cpu, taken: bool, target: u32) -> Task
 }
 
 // A jump to an address that is no multiple of 4.
+#[inline(always)]
 fn misaligned(target: u32) -> Task
     ensures { result ≡ TrapTask 0 target }
 {

@@ -30,11 +30,8 @@ fn entered(alloc: Global, mode: Mode, value: u32) -> Result<(Cpu, [u32; 5]), All
     for k in 0..5u32 {
         set(&mut store, 1024 + 71 + k, k + 1);
     }
-    let mut cpu = Cpu {
-        mode,
-        x5: value,
-        ..reset()
-    };
+    let mut cpu = Cpu { mode, ..reset() };
+    cpu.set_x(5, value);
     let _ = act(&mut cpu, 0, &mut store);
     let mut words = [0; 5];
     for k in 0..5u32 {

@@ -2,9 +2,11 @@
 
 ghost use Rattle.std.specs.Prelude.{◌≡◌, ◌≢◌, ◌<◌, OnErr, IfErr, length};
 ghost use Rattle.hv_isa.specs.Table.{NamesRegs};
+ghost use Rattle.hv_store.specs.Space.{Keeps};
 ghost use Rattle.hv_sv32.specs.Walk.{walk_of};
 ghost use Rattle.hv_exec.specs.Do.{do_of};
 ghost use Rattle.hv_exec.specs.Act.{act_of, acted, carried_out, load_at, store_at, enter_at};
+ghost use Rattle.hv_exec.specs.Kept.{ChangedNothing};
 
 use crate::answer::{Task, Width, advance, give};
 use crate::memory::{extend, lane};
@@ -19,21 +21,16 @@ use hv_word::lane_get;
 /// Executes one instruction of a hart, or takes its trap. An error is the refusal of a word that was asked for; then
 /// nothing changed. At most one of its asks writes, and it is the last: the space need have room for one alone.
 #[tactic(auto, unfolding(crate::specs::Act::act_of, crate::specs::Act::fetch_at, crate::specs::Act::decoded))]
+#[inline(always)]
 pub fn act<S: Space>(cpu: &mut Cpu, hart: u32, space: &mut S) -> Result<(), Refusal>
     requires next { cpu.old.next ≡ 0 }
     requires room { 0 < S.room space.old }
     ensures acts { acted result (S.storage space.new) cpu.new
         ≡ act_of (S.storage space.old) (S.slots space.old) hart cpu.old }
     ensures next { cpu.new.next ≢ 0 → cpu.new.next < length (S.slots space.old) }
-    ensures len { length (S.storage space.new) ≡ length (S.storage space.old) }
     ensures level { IfErr result (λ e. e.level < S.depth space.old) }
-    ensures err_storage { OnErr result (S.storage space.new ≡ S.storage space.old) }
-    ensures err_slots { OnErr result (S.slots space.new ≡ S.slots space.old) }
-    ensures err_cpu { OnErr result (cpu.new ≡ cpu.old) }
-    ensures depth { S.depth space.new ≡ S.depth space.old }
-    ensures place { S.place space.new ≡ S.place space.old }
-    ensures frame { S.frame space.new ≡ S.frame space.old }
-    ensures origin { S.origin space.new ≡ S.origin space.old }
+    ensures keeps { Keeps S.Space space.old space.new }
+    ensures err { OnErr result (ChangedNothing S.Space space.old space.new cpu.old cpu.new) }
 {
     let at = match translate(cpu, space, cpu.pc, Access::Fetch) {
         Ok(at) => at,
@@ -56,6 +53,7 @@ pub fn act<S: Space>(cpu: &mut Cpu, hart: u32, space: &mut S) -> Result<(), Refu
 
 // Executes an instruction whose word was fetched.
 #[tactic(auto, unfolding(crate::specs::Act::carried_out))]
+#[inline(always)]
 fn execute<S: Space>(
     cpu: &mut Cpu,
     hart: u32,
@@ -69,15 +67,9 @@ fn execute<S: Space>(
     ensures acts { acted result (S.storage space.new) cpu.new
         ≡ carried_out (S.storage space.old) (S.slots space.old) cpu.old (do_of instr.now word cpu.old hart) }
     ensures next { cpu.new.next ≢ 0 → cpu.new.next < length (S.slots space.old) }
-    ensures len { length (S.storage space.new) ≡ length (S.storage space.old) }
     ensures level { IfErr result (λ e. e.level < S.depth space.old) }
-    ensures err_storage { OnErr result (S.storage space.new ≡ S.storage space.old) }
-    ensures err_slots { OnErr result (S.slots space.new ≡ S.slots space.old) }
-    ensures err_cpu { OnErr result (cpu.new ≡ cpu.old) }
-    ensures depth { S.depth space.new ≡ S.depth space.old }
-    ensures place { S.place space.new ≡ S.place space.old }
-    ensures frame { S.frame space.new ≡ S.frame space.old }
-    ensures origin { S.origin space.new ≡ S.origin space.old }
+    ensures keeps { Keeps S.Space space.old space.new }
+    ensures err { OnErr result (ChangedNothing S.Space space.old space.new cpu.old cpu.new) }
 {
     match perform(cpu, hart, word, instr) {
         Task::Done => Ok(()),
@@ -101,6 +93,7 @@ fn execute<S: Space>(
 }
 
 // Loads register `rd` from an aligned address.
+#[inline(always)]
 fn load<S: Space>(
     cpu: &mut Cpu,
     space: &mut S,
@@ -116,15 +109,9 @@ fn load<S: Space>(
         ≡ load_at (S.storage space.old) (S.slots space.old) cpu.old address width signed rd
         (walk_of (S.storage space.old) (S.slots space.old) cpu.old address Access.Read) }
     ensures next { cpu.new.next ≢ 0 → cpu.new.next < length (S.slots space.old) }
-    ensures len { length (S.storage space.new) ≡ length (S.storage space.old) }
     ensures level { IfErr result (λ e. e.level < S.depth space.old) }
-    ensures err_storage { OnErr result (S.storage space.new ≡ S.storage space.old) }
-    ensures err_slots { OnErr result (S.slots space.new ≡ S.slots space.old) }
-    ensures err_cpu { OnErr result (cpu.new ≡ cpu.old) }
-    ensures depth { S.depth space.new ≡ S.depth space.old }
-    ensures place { S.place space.new ≡ S.place space.old }
-    ensures frame { S.frame space.new ≡ S.frame space.old }
-    ensures origin { S.origin space.new ≡ S.origin space.old }
+    ensures keeps { Keeps S.Space space.old space.new }
+    ensures err { OnErr result (ChangedNothing S.Space space.old space.new cpu.old cpu.new) }
 {
     let at = match translate(cpu, space, address, Access::Read) {
         Ok(at) => at,
@@ -143,6 +130,7 @@ fn load<S: Space>(
 }
 
 // Stores a value's low bits at an aligned address.
+#[inline(always)]
 fn store<S: Space>(
     cpu: &mut Cpu,
     space: &mut S,
@@ -156,15 +144,9 @@ fn store<S: Space>(
         ≡ store_at (S.storage space.old) (S.slots space.old) cpu.old address width value
         (walk_of (S.storage space.old) (S.slots space.old) cpu.old address Access.Write) }
     ensures next { cpu.new.next ≢ 0 → cpu.new.next < length (S.slots space.old) }
-    ensures len { length (S.storage space.new) ≡ length (S.storage space.old) }
     ensures level { IfErr result (λ e. e.level < S.depth space.old) }
-    ensures err_storage { OnErr result (S.storage space.new ≡ S.storage space.old) }
-    ensures err_slots { OnErr result (S.slots space.new ≡ S.slots space.old) }
-    ensures err_cpu { OnErr result (cpu.new ≡ cpu.old) }
-    ensures depth { S.depth space.new ≡ S.depth space.old }
-    ensures place { S.place space.new ≡ S.place space.old }
-    ensures frame { S.frame space.new ≡ S.frame space.old }
-    ensures origin { S.origin space.new ≡ S.origin space.old }
+    ensures keeps { Keeps S.Space space.old space.new }
+    ensures err { OnErr result (ChangedNothing S.Space space.old space.new cpu.old cpu.new) }
 {
     let at = match translate(cpu, space, address, Access::Write) {
         Ok(at) => at,
@@ -188,15 +170,9 @@ fn enter<S: Space>(cpu: &mut Cpu, space: &mut S, value: u32) -> Result<(), Refus
     ensures acts { acted result (S.storage space.new) cpu.new
         ≡ enter_at (S.storage space.old) (S.slots space.old) cpu.old value }
     ensures next { cpu.new.next ≢ 0 → cpu.new.next < length (S.slots space.old) }
-    ensures len { length (S.storage space.new) ≡ length (S.storage space.old) }
     ensures level { IfErr result (λ e. e.level < S.depth space.old) }
-    ensures err_storage { OnErr result (S.storage space.new ≡ S.storage space.old) }
-    ensures err_slots { OnErr result (S.slots space.new ≡ S.slots space.old) }
-    ensures err_cpu { OnErr result (cpu.new ≡ cpu.old) }
-    ensures depth { S.depth space.new ≡ S.depth space.old }
-    ensures place { S.place space.new ≡ S.place space.old }
-    ensures frame { S.frame space.new ≡ S.frame space.old }
-    ensures origin { S.origin space.new ≡ S.origin space.old }
+    ensures keeps { Keeps S.Space space.old space.new }
+    ensures err { OnErr result (ChangedNothing S.Space space.old space.new cpu.old cpu.new) }
 {
     if value % 4096 != 0 {
         take_trap(cpu, 6, false, value);

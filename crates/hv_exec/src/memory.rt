@@ -11,6 +11,7 @@ use hv_word::{Lane, sext};
 
 /// A load of register `rd` from an address.
 #[tactic(auto, unfolding(crate::specs::Memory::loading))]
+#[inline(always)]
 pub(crate) fn load(address: u32, width: Width, signed: bool, rd: u8) -> Task
     requires { rd < 32 }
     ensures does { (r : Regs) → answered result r ≡ loading address width signed rd }
@@ -32,6 +33,7 @@ pub(crate) fn load(address: u32, width: Width, signed: bool, rd: u8) -> Task
 
 /// A store of a value's low bits to an address.
 #[tactic(auto, unfolding(crate::specs::Memory::storing))]
+#[inline(always)]
 pub(crate) fn store(address: u32, width: Width, value: u32) -> Task
     ensures does { (r : Regs) → answered result r ≡ storing address width value }
     ensures range { IsInRange result }
@@ -50,6 +52,7 @@ pub(crate) fn store(address: u32, width: Width, value: u32) -> Task
 }
 
 /// The lane of its word at an offset in a page, for an aligned access.
+#[inline(always)]
 pub(crate) fn lane(width: Width, offset: u32) -> Lane
     ensures lane { result ≡ lane_at width offset }
     ensures valid { IsLane result }
@@ -62,6 +65,7 @@ pub(crate) fn lane(width: Width, offset: u32) -> Lane
 }
 
 /// What a load puts into its register, from the lane's value.
+#[inline(always)]
 pub(crate) fn extend(width: Width, signed: bool, value: u32) -> u32
     ensures { result ≡ extended width signed value }
 {
@@ -73,6 +77,7 @@ pub(crate) fn extend(width: Width, signed: bool, value: u32) -> u32
 }
 
 // How many bytes an access moves.
+#[inline(always)]
 fn bytes(width: Width) -> u32
     ensures bytes { result ≡ bytes_of width }
     ensures some { 1 ≤ result }

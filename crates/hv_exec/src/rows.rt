@@ -14,6 +14,7 @@ use hv_isa::{Instr, Op};
 
 /// An instruction's own work on the registers of a hart, where `word` is its word, and what is left to do.
 #[tactic(auto, using(crate::proofs::Keeps::keeps_same), unfolding(crate::specs::Do::do_of))]
+#[inline(always)]
 pub(crate) fn perform(cpu: &mut Cpu, hart: u32, word: u32, instr: &Instr) -> Task
     requires { NamesRegs instr.now }
     ensures does { answered result cpu.new ≡ do_of instr.now word cpu.old hart }

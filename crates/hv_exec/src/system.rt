@@ -6,6 +6,7 @@ ghost use Rattle.hv_exec.specs.Answer.{answered, KeepsUnlessDone, IsInRange};
 ghost use Rattle.hv_exec.specs.System.{new_value, csr_row, returned, may_wait, may_fence, called, entering};
 
 use crate::answer::{Task, give, illegal};
+use hv_cpu::mstatus::{TVM, TW};
 use hv_cpu::{Cpu, Mode};
 use hv_csr::{csr_read, csr_write};
 use hv_isa::Instr;
@@ -88,28 +89,31 @@ pub(crate) fn sret(cpu: &mut Cpu, word: u32) -> Task
 
 /// Whether WFI is legal: in M, and below it where TW is clear.
 #[tactic(auto, unfolding(crate::specs::System::may_wait))]
+#[inline(always)]
 pub(crate) fn may_wait(cpu: &Cpu) -> bool
     ensures { result ≡ may_wait cpu.now }
 {
     match cpu.mode {
         Mode::M => true,
-        Mode::S | Mode::U => field::<21, 1>(cpu.mstatus) == 0,
+        Mode::S | Mode::U => field::<TW, 1>(cpu.mstatus) == 0,
     }
 }
 
 /// Whether SFENCE.VMA is legal: in M, and in S where TVM is clear.
 #[tactic(auto, unfolding(crate::specs::System::may_fence))]
+#[inline(always)]
 pub(crate) fn may_fence(cpu: &Cpu) -> bool
     ensures { result ≡ may_fence cpu.now }
 {
     match cpu.mode {
         Mode::M => true,
-        Mode::S => field::<20, 1>(cpu.mstatus) == 0,
+        Mode::S => field::<TVM, 1>(cpu.mstatus) == 0,
         Mode::U => false,
     }
 }
 
 /// ECALL, whose cause tells the mode.
+#[inline(always)]
 pub(crate) fn call(cpu: &Cpu) -> Task
     ensures does { answered result cpu.now ≡ called cpu.now }
     ensures range { IsInRange result }
@@ -124,6 +128,7 @@ pub(crate) fn call(cpu: &Cpu) -> Task
 
 /// VMENTER of the page at the address `value`, which is illegal below M.
 #[tactic(auto, unfolding(crate::specs::System::entering))]
+#[inline(always)]
 pub(crate) fn enter(cpu: &Cpu, word: u32, value: u32) -> Task
     ensures does { answered result cpu.now ≡ entering cpu.now value word }
     ensures keeps { KeepsUnlessDone result cpu.now cpu.now }

@@ -3,18 +3,12 @@
 ghost use Rattle.std.specs.Prelude.{◌<◌};
 
 use super::*;
+use hv_cpu::mstatus::{MPRV, TSR, TVM, TW};
 use hv_cpu::{Cpu, Mode, reset};
 use hv_store::Store;
 use std::alloc::{AllocError, Global};
 use std::process::Abort;
 use std::test::Fail;
-
-// Bits of mstatus: TVM, TW and TSR.
-const TVM: u32 = 1 << 20;
-
-const TW: u32 = 1 << 21;
-
-const TSR: u32 = 1 << 22;
 
 // A storage of four pages that begins with some words.
 fn storage(alloc: Global, words: &[u32]) -> Result<Store, AllocError> {
@@ -45,8 +39,16 @@ fn one(rt: &impl Abort, alloc: Global, cpu: Cpu, word: u32) -> Result<Cpu, Alloc
     Ok(after(rt, cpu, &mut store, 1))
 }
 
+// A hart with two values in x1 and x2.
+fn holding(a: u32, b: u32) -> Cpu {
+    let mut cpu = reset();
+    cpu.set_x(1, a);
+    cpu.set_x(2, b);
+    cpu
+}
+
 #[test]
-fn computes(rt: HostRuntime) -> Result<(), Fail> {
+fn arithmetic_gives_the_manuals_results(rt: HostRuntime) -> Result<(), Fail> {
     let minus = 0x8000_0010;
     for (word, a, b, want) in [
         (0x0020_81B3, 0xFFFF_FFFF, 2, 1),
@@ -68,19 +70,14 @@ fn computes(rt: HostRuntime) -> Result<(), Fail> {
         (0x1234_51B7, 0, 0, 0x1234_5000),
         (0xFFFF_F197, 0, 0, 0xFFFF_F000),
     ] {
-        let cpu = Cpu {
-            x1: a,
-            x2: b,
-            ..reset()
-        };
-        let cpu = one(&rt, rt.alloc(), cpu, word)?;
-        assert_eq!(rt; (cpu.x3, cpu.pc), (want, 4), "{word:x}");
+        let cpu = one(&rt, rt.alloc(), holding(a, b), word)?;
+        assert_eq!(rt; (cpu.x(3), cpu.pc), (want, 4), "{word:x}");
     }
     Ok(())
 }
 
 #[test]
-fn jumps(rt: HostRuntime) -> Result<(), Fail> {
+fn branches_and_jumps_choose_the_next_instruction(rt: HostRuntime) -> Result<(), Fail> {
     // beq, bne, blt, bge, bltu and bgeu of x1 and x2, 8 on; jalr x1, 5(x1); jal x1, -4
     for (word, a, b, pc, x1) in [
         (0x0020_8463, 7, 7, 8, 7),
@@ -92,26 +89,21 @@ fn jumps(rt: HostRuntime) -> Result<(), Fail> {
         (0x0050_80E7, 0x103, 0, 0x108, 4),
         (0xFFDF_F0EF, 0, 0, 0xFFFF_FFFC, 4),
     ] {
-        let cpu = Cpu {
-            x1: a,
-            x2: b,
-            ..reset()
-        };
-        let cpu = one(&rt, rt.alloc(), cpu, word)?;
-        assert_eq!(rt; (cpu.pc, cpu.x1), (pc, x1), "{word:x}");
+        let cpu = one(&rt, rt.alloc(), holding(a, b), word)?;
+        assert_eq!(rt; (cpu.pc, cpu.x(1)), (pc, x1), "{word:x}");
     }
     Ok(())
 }
 
 #[test]
-fn moves_bytes_and_halves(rt: HostRuntime) -> Result<(), Fail> {
+fn loads_extend_bytes_and_halves(rt: HostRuntime) -> Result<(), Fail> {
     let mut store = storage(
         rt.alloc(),
         &[0xFFF0_0093, 0x0410_0123, 0x0420_5103, 0x0420_0183],
     )?;
     let cpu = after(&rt, reset(), &mut store, 4);
-    assert_eq!(rt; (cpu.pc, cpu.x1), (0x10, 0xFFFF_FFFF));
-    assert_eq!(rt; (cpu.x2, cpu.x3), (0xFF, 0xFFFF_FFFF));
+    assert_eq!(rt; (cpu.pc, cpu.x(1)), (0x10, 0xFFFF_FFFF));
+    assert_eq!(rt; (cpu.x(2), cpu.x(3)), (0xFF, 0xFFFF_FFFF));
     assert_eq!(rt; word(&store, 16), 0x00FF_0000);
     Ok(())
 }
@@ -127,7 +119,7 @@ fn word(store: &Store, at: u32) -> u32
 #[test]
 fn a_misaligned_jump_writes_no_register(rt: HostRuntime) -> Result<(), Fail> {
     let cpu = one(&rt, rt.alloc(), reset(), 0x0060_00EF)?;
-    assert_eq!(rt; (cpu.pc, cpu.x1), (0, 0));
+    assert_eq!(rt; (cpu.pc, cpu.x(1)), (0, 0));
     assert_eq!(rt; (cpu.mcause, cpu.mtval, cpu.mstatus), (0, 6, 0x1800));
     Ok(())
 }
@@ -139,7 +131,7 @@ fn stores_up_to_the_end_of_storage(rt: HostRuntime) -> Result<(), Fail> {
         &[0x0000_4137, 0x0090_0193, 0xFE31_2E23, 0x0031_2023],
     )?;
     let cpu = after(&rt, reset(), &mut store, 4);
-    assert_eq!(rt; (cpu.pc, cpu.x2, cpu.x3), (0, 0x4000, 9));
+    assert_eq!(rt; (cpu.pc, cpu.x(2), cpu.x(3)), (0, 0x4000, 9));
     assert_eq!(rt; (cpu.mepc, cpu.mcause, cpu.mtval), (0xC, 7, 0x4000));
     assert_eq!(rt; cpu.mstatus, 0x1800);
     let pages = store.pages();
@@ -149,7 +141,7 @@ fn stores_up_to_the_end_of_storage(rt: HostRuntime) -> Result<(), Fail> {
 }
 
 #[test]
-fn traps(rt: HostRuntime) -> Result<(), Fail> {
+fn each_exception_tells_its_cause_and_value(rt: HostRuntime) -> Result<(), Fail> {
     // with TVM, TW and TSR set
     for (word, mode, cause, tval) in [
         (0x0000_0073, Mode::U, 8, 0),
@@ -173,7 +165,7 @@ fn traps(rt: HostRuntime) -> Result<(), Fail> {
     ] {
         let cpu = Cpu {
             mode,
-            mstatus: TVM | TW | TSR,
+            mstatus: (1 << TVM) | (1 << TW) | (1 << TSR),
             ..reset()
         };
         let cpu = one(&rt, rt.alloc(), cpu, word)?;
@@ -187,9 +179,9 @@ fn page_faults_are_traps_of_the_guest(rt: HostRuntime) -> Result<(), Fail> {
     // a fetch in S; and in M a load with the mode of MPP, which is U, and a misaligned one, which isn't walked
     for (word, mode, mstatus, cause, tval) in [
         (0x1240_2183, Mode::S, 0, 12, 0),
-        (0x1240_2183, Mode::M, 1 << 17, 13, 0x124),
-        (0x1240_2223, Mode::M, 1 << 17, 15, 0x124),
-        (0x1250_1183, Mode::M, 1 << 17, 4, 0x125),
+        (0x1240_2183, Mode::M, 1 << MPRV, 13, 0x124),
+        (0x1240_2223, Mode::M, 1 << MPRV, 15, 0x124),
+        (0x1250_1183, Mode::M, 1 << MPRV, 4, 0x125),
     ] {
         let cpu = Cpu {
             mode,
@@ -204,7 +196,7 @@ fn page_faults_are_traps_of_the_guest(rt: HostRuntime) -> Result<(), Fail> {
 }
 
 #[test]
-fn reads_without_writing(rt: HostRuntime) -> Result<(), Fail> {
+fn fences_and_waits_in_m_only_go_on(rt: HostRuntime) -> Result<(), Fail> {
     // csrrs x3, mhartid, x0; wfi and sfence.vma in M, where TW and TVM don't count; fence; fence.i
     let words = [
         0xF140_21F3,
@@ -215,11 +207,11 @@ fn reads_without_writing(rt: HostRuntime) -> Result<(), Fail> {
     ];
     let mut store = storage(rt.alloc(), &words)?;
     let cpu = Cpu {
-        mstatus: TW | TVM,
+        mstatus: (1 << TVM) | (1 << TW),
         ..reset()
     };
     let cpu = after(&rt, cpu, &mut store, 5);
-    assert_eq!(rt; (cpu.pc, cpu.x3), (0x14, 5));
+    assert_eq!(rt; (cpu.pc, cpu.x(3)), (0x14, 5));
     Ok(())
 }
 
@@ -235,7 +227,7 @@ fn sets_control_registers(rt: HostRuntime) -> Result<(), Fail> {
     ];
     let mut store = storage(rt.alloc(), &words)?;
     let cpu = after(&rt, reset(), &mut store, 7);
-    assert_eq!(rt; (cpu.pc, cpu.x6), (0x14, 0x80));
+    assert_eq!(rt; (cpu.pc, cpu.x(6)), (0x14, 0x80));
     assert_eq!(rt; (cpu.mtvec, cpu.mie, cpu.mstatus), (0x20, 0x80, 8));
     Ok(())
 }
@@ -267,8 +259,8 @@ fn runs_a_user_page(rt: HostRuntime) -> Result<(), Fail> {
     ];
     let mut store = storage(rt.alloc(), &words)?;
     let cpu = after(&rt, reset(), &mut store, 20);
-    assert_eq!(rt; (cpu.pc, cpu.x6, cpu.x7), (0x4C, 0x3C, 0x1000));
-    assert_eq!(rt; (cpu.x10, cpu.x11), (0x2A, 8));
+    assert_eq!(rt; (cpu.pc, cpu.x(6), cpu.x(7)), (0x4C, 0x3C, 0x1000));
+    assert_eq!(rt; (cpu.x(10), cpu.x(11)), (0x2A, 8));
     assert_eq!(rt; (cpu.mtvec, cpu.mepc, cpu.mcause), (0x44, 0x40, 8));
     assert_eq!(rt; cpu.satp, 0x8000_0001);
     Ok(())

@@ -1,5 +1,6 @@
 -- What an object outside was made with, and its count of faults.
-use Rattle.std.specs.Prelude.{◌≡◌, ℕ, ◌+◌, ◌-◌, ◌^◌, ◌≤◌, min, List, [], length, ⊤, Option, None, Some, Result, MatchResult, OnErr}
+use Rattle.std.specs.Prelude.{◌≡◌, ℕ, ◌+◌, ◌-◌, ◌^◌, ◌≤◌, min, List, [], length, ⊤}
+use Rattle.std.specs.Prelude.{Option, None, Some, Result, MatchResult, OnErr}
 
 -- what a sink in memory was made with: the bytes that it has room for, and the numbers of the calls that fail
 pub record Making : Type 0 where

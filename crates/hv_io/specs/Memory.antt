@@ -1,9 +1,11 @@
 -- Sources and sinks in memory.
-use Rattle.std.specs.Prelude.{ℕ, Bool, ◌==◌, ◌&&◌, ◌||◌, nat_le, nat_lt, ◌-◌, min, List, ◌++◌, length, take, drop, if◌then◌else◌}
+use Rattle.std.specs.Prelude.{ℕ, Bool, ◌==◌, ◌&&◌, ◌||◌, nat_le, nat_lt, ◌-◌, min, if◌then◌else◌}
+use Rattle.std.specs.Prelude.{List, ◌++◌, length, take, drop}
 use Rattle.std.specs.List.{list_any}
 use Rattle.hv_io.specs.Faults.{one_more}
 
--- a source in memory: the bytes left, the most that one call gives, the numbers of the calls that fail, and how many calls and failures there were
+-- a source in memory: the bytes left, the most that one call gives, the numbers of the calls that fail, and how many
+-- calls and failures there were
 pub record SourceState : Type 0 where
   pub left : List ℕ
   pub chunk : ℕ
@@ -11,7 +13,8 @@ pub record SourceState : Type 0 where
   pub calls : ℕ
   pub faults : ℕ
 
--- a sink in memory: the bytes held, the most that it holds and that one call takes, the numbers of the calls that fail, and how many calls and failures there were
+-- a sink in memory: the bytes held, the most that it holds and that one call takes, the numbers of the calls that fail,
+-- and how many calls and failures there were
 pub record SinkState : Type 0 where
   pub held : List ℕ
   pub room : ℕ

@@ -2,6 +2,7 @@
 
 ghost use Rattle.std.specs.Prelude.{◌≡◌, ◌+◌, ◌<◌, ◌≤◌, length, IfOk, OnOk, IfErr, OnErr, IfSome};
 ghost use Rattle.std.specs.Io.KnownBytes.{Appends, Consumes, IsAtEnd};
+ghost use Rattle.hv_limits.specs.Limits.{input_limit};
 ghost use Rattle.hv_io.specs.Faults.{Rose, HasCause};
 ghost use Rattle.hv_io.specs.Whole.{IsDue, IsCountAt, Gives, TakesAtMost, AppendsFront, LacksRoom};
 ghost use Rattle.hv_io.specs.declared.whole.ReadEnd.TheVariants.{ReadFault, Memory};

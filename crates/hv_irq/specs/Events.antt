@@ -1,5 +1,6 @@
 -- Events of a schedule, and what a recording of them keeps.
-use Rattle.std.specs.Prelude.{◌≡◌, ℕ, Bool, not, ◌==◌, ◌+◌, ◌<◌, ◌≤◌, nat_lt, nat_le, bit_and, List, length, sum_by, All, Option, None, Some, if◌then◌else◌}
+use Rattle.std.specs.Prelude.{◌≡◌, ℕ, Bool, not, ◌==◌, ◌+◌, ◌<◌, ◌≤◌, nat_lt, nat_le, bit_and, if◌then◌else◌}
+use Rattle.std.specs.Prelude.{List, length, sum_by, All, Option, None, Some}
 use Rattle.hv_limits.specs.Limits.{harts_limit, lines_mask, steps_limit, events_limit}
 use Rattle.hv_irq.specs.declared.Event.{Event}
 use Rattle.hv_irq.specs.declared.Event.TheVariants.{Turn, Lines}

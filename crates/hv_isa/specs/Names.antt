@@ -1,7 +1,11 @@
 -- The instructions' names, as the manuals write them in assembly.
 use Rattle.std.specs.Prelude.{ℕ, List, codes}
 use Rattle.hv_isa.specs.declared.Op.{Op}
-use Rattle.hv_isa.specs.declared.Op.TheVariants.{Lui, Auipc, Jal, Jalr, Beq, Bne, Blt, Bge, Bltu, Bgeu, Lb, Lh, Lw, Lbu, Lhu, Sb, Sh, Sw, Addi, Slti, Sltiu, Xori, Ori, Andi, Slli, Srli, Srai, Add, Sub, Sll, Slt, Sltu, Xor, Srl, Sra, Or, And, Fence, FenceI, Ecall, Ebreak, Csrrw, Csrrs, Csrrc, Csrrwi, Csrrsi, Csrrci, Sret, Mret, Wfi, SfenceVma, Vmenter}
+use Rattle.hv_isa.specs.declared.Op.TheVariants.{Lui, Auipc, Jal, Jalr, Beq, Bne, Blt, Bge, Bltu, Bgeu, Lb, Lh, Lw, Lbu}
+use Rattle.hv_isa.specs.declared.Op.TheVariants.{Lhu, Sb, Sh, Sw, Addi, Slti, Sltiu, Xori, Ori, Andi, Slli, Srli, Srai}
+use Rattle.hv_isa.specs.declared.Op.TheVariants.{Add, Sub, Sll, Slt, Sltu, Xor, Srl, Sra, Or, And, Fence, FenceI, Ecall}
+use Rattle.hv_isa.specs.declared.Op.TheVariants.{Ebreak, Csrrw, Csrrs, Csrrc, Csrrwi, Csrrsi, Csrrci, Sret, Mret, Wfi}
+use Rattle.hv_isa.specs.declared.Op.TheVariants.{SfenceVma, Vmenter}
 
 -- the name of each row
 abbrev pub name_of : Op → List ℕ

@@ -1,12 +1,17 @@
 -- The 52 instructions and their words: RV32I, Zicsr and Zifencei (Unprivileged ISA, chapters 2, 3, 9
 -- and the listings of chapter 24), sret, mret, wfi and sfence.vma (Privileged Architecture, sections
 -- 3.3 and 4.2), and vmenter in the space for custom instructions.
-use Rattle.std.specs.Prelude.{ℕ, ◌≡◌, ◌+◌, ◌*◌, ◌^◌, ◌%◌, ◌<◌, Bool, true, ◌==◌, ◌&&◌, List, [], ◌∷◌, Option, Some, None, find}
+use Rattle.std.specs.Prelude.{ℕ, ◌≡◌, ◌+◌, ◌*◌, ◌^◌, ◌%◌, ◌<◌, Bool, true, ◌==◌, ◌&&◌, List, [], ◌∷◌, Option, Some}
+use Rattle.std.specs.Prelude.{None, find}
 use Rattle.std.specs.Option.{option_map}
 use Rattle.hv_word.specs.Words.{field_of, sext_of}
 use Rattle.hv_isa.specs.declared.Instr.{Instr}
 use Rattle.hv_isa.specs.declared.Op.{Op}
-use Rattle.hv_isa.specs.declared.Op.TheVariants.{Lui, Auipc, Jal, Jalr, Beq, Bne, Blt, Bge, Bltu, Bgeu, Lb, Lh, Lw, Lbu, Lhu, Sb, Sh, Sw, Addi, Slti, Sltiu, Xori, Ori, Andi, Slli, Srli, Srai, Add, Sub, Sll, Slt, Sltu, Xor, Srl, Sra, Or, And, Fence, FenceI, Ecall, Ebreak, Csrrw, Csrrs, Csrrc, Csrrwi, Csrrsi, Csrrci, Sret, Mret, Wfi, SfenceVma, Vmenter}
+use Rattle.hv_isa.specs.declared.Op.TheVariants.{Lui, Auipc, Jal, Jalr, Beq, Bne, Blt, Bge, Bltu, Bgeu, Lb, Lh, Lw, Lbu}
+use Rattle.hv_isa.specs.declared.Op.TheVariants.{Lhu, Sb, Sh, Sw, Addi, Slti, Sltiu, Xori, Ori, Andi, Slli, Srli, Srai}
+use Rattle.hv_isa.specs.declared.Op.TheVariants.{Add, Sub, Sll, Slt, Sltu, Xor, Srl, Sra, Or, And, Fence, FenceI, Ecall}
+use Rattle.hv_isa.specs.declared.Op.TheVariants.{Ebreak, Csrrw, Csrrs, Csrrc, Csrrwi, Csrrsi, Csrrci, Sret, Mret, Wfi}
+use Rattle.hv_isa.specs.declared.Op.TheVariants.{SfenceVma, Vmenter}
 
 -- A row's format and its fixed fields. U, J, B, I, S and R are the manual's formats, with the opcode,
 -- funct3 and funct7 that are fixed in them.

@@ -10,24 +10,28 @@ use crate::{Instr, Op};
 use hv_word::{field, sext};
 
 // The numbers in a word's three places for registers.
+#[inline(always)]
 fn rd(word: u32) -> u8
     ensures { result ≡ field_of word 7 5 }
 {
     field::<7, 5>(word) as u8
 }
 
+#[inline(always)]
 fn rs1(word: u32) -> u8
     ensures { result ≡ field_of word 15 5 }
 {
     field::<15, 5>(word) as u8
 }
 
+#[inline(always)]
 fn rs2(word: u32) -> u8
     ensures { result ≡ field_of word 20 5 }
 {
     field::<20, 5>(word) as u8
 }
 
+#[inline(always)]
 pub(crate) fn read_upper(op: Op, word: u32) -> Instr
     ensures { result ≡ fields_of (U 0) op word }
 {
@@ -40,6 +44,7 @@ pub(crate) fn read_upper(op: Op, word: u32) -> Instr
     }
 }
 
+#[inline(always)]
 pub(crate) fn read_jump(op: Op, word: u32) -> Instr
     ensures { result ≡ fields_of (J 0) op word }
 {
@@ -54,6 +59,7 @@ pub(crate) fn read_jump(op: Op, word: u32) -> Instr
     }
 }
 
+#[inline(always)]
 pub(crate) fn read_branch(op: Op, word: u32) -> Instr
     ensures { result ≡ fields_of (B 0 0) op word }
 {
@@ -68,6 +74,7 @@ pub(crate) fn read_branch(op: Op, word: u32) -> Instr
     }
 }
 
+#[inline(always)]
 pub(crate) fn read_immediate(op: Op, word: u32) -> Instr
     ensures { result ≡ fields_of (I 0 0) op word }
 {
@@ -81,6 +88,7 @@ pub(crate) fn read_immediate(op: Op, word: u32) -> Instr
     }
 }
 
+#[inline(always)]
 pub(crate) fn read_store(op: Op, word: u32) -> Instr
     ensures { result ≡ fields_of (S 0 0) op word }
 {
@@ -94,6 +102,7 @@ pub(crate) fn read_store(op: Op, word: u32) -> Instr
     }
 }
 
+#[inline(always)]
 pub(crate) fn read_registers(op: Op, word: u32) -> Instr
     ensures { result ≡ fields_of (R 0 0 0) op word }
 {
@@ -106,6 +115,7 @@ pub(crate) fn read_registers(op: Op, word: u32) -> Instr
     }
 }
 
+#[inline(always)]
 pub(crate) fn read_shift(op: Op, word: u32) -> Instr
     ensures { result ≡ fields_of (Shift 0 0 0) op word }
 {
@@ -118,6 +128,7 @@ pub(crate) fn read_shift(op: Op, word: u32) -> Instr
     }
 }
 
+#[inline(always)]
 pub(crate) fn read_control(op: Op, word: u32) -> Instr
     ensures { result ≡ fields_of (Csr 0 0) op word }
 {
@@ -130,6 +141,7 @@ pub(crate) fn read_control(op: Op, word: u32) -> Instr
     }
 }
 
+#[inline(always)]
 pub(crate) fn read_pair(op: Op, word: u32) -> Instr
     ensures { result ≡ fields_of (Pair 0 0 0) op word }
 {
@@ -142,6 +154,7 @@ pub(crate) fn read_pair(op: Op, word: u32) -> Instr
     }
 }
 
+#[inline(always)]
 pub(crate) fn read_source(op: Op, word: u32) -> Instr
     ensures { result ≡ fields_of (One 0 0) op word }
 {
@@ -154,6 +167,7 @@ pub(crate) fn read_source(op: Op, word: u32) -> Instr
     }
 }
 
+#[inline(always)]
 pub(crate) fn read_whole(op: Op) -> Instr
     ensures { result ≡ fields_of (Whole 0 0 0) op 0 }
 {

@@ -221,6 +221,7 @@ macro_rules! decode_arms {
 
 // One `match` on the opcode and one inside it find the row, with no second look at the operation.
 #[tactic(auto, unfolding(crate::specs::Table::decode_of))]
+#[inline(always)]
 fn find_row(word: u32) -> Option<Instr>
     ensures { result ≡ decode_of word }
 {
@@ -287,6 +288,7 @@ fn spell_row(instr: &Instr) -> u32
 }
 
 /// The instruction whose word this is; None where no row has the word.
+#[inline(always)]
 pub fn decode(word: u32) -> Option<Instr>
     ensures row { result ≡ decode_of word }
     ensures found { IfSome result (λ i. Row i word) }

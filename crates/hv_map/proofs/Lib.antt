@@ -3,6 +3,10 @@ pub mod Assoc
 pub mod Handed
 pub mod Levels
 pub mod Like
+pub mod Listing
+pub mod Lists
+pub mod Machines
+pub mod Notes
 pub mod Outwards
 pub mod Pins
 pub mod Rows

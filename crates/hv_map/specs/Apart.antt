@@ -1,6 +1,7 @@
 -- Which bare pages a machine stands on, and whether they are all different.
-use Rattle.std.specs.Prelude.{ℕ, ◌+◌, ◌*◌, ◌/◌, Bool, true, false, not, ◌&&◌, ◌||◌, ◌==◌, if◌then◌else◌, List, [], ◌∷◌, ◌++◌, map, Option, Some, None}
-use Rattle.std.specs.List.{range_with_len, flat_map}
+use Rattle.std.specs.Prelude.{ℕ, ◌+◌, ◌*◌, ◌/◌, Bool, true, not, ◌&&◌, ◌==◌, if◌then◌else◌, List, [], ◌∷◌}
+use Rattle.std.specs.Prelude.{◌++◌, map, Option, Some, None}
+use Rattle.std.specs.List.{range_with_len, flat_map, list_any}
 use Rattle.hv_word.specs.Storage.{page_count}
 use Rattle.hv_store.specs.declared.access.Slot.{Slot}
 use Rattle.hv_store.specs.declared.access.Way.{Way}
@@ -10,38 +11,39 @@ use Rattle.hv_map.specs.Item.{Item}
 use Rattle.hv_map.specs.Compose.{Looked, Named, Stopped, compose, reading, table_of}
 use Rattle.hv_map.specs.Chain.{map_along}
 
+-- whether a number is in a list
 abbrev pub has : ℕ → List ℕ → Bool
-has a [] = false
-has a (b ∷ bs) = (a == b) || has a bs
+has a bs = list_any (λ b. a == b) bs
 
--- no number stands twice
+-- whether no number stands twice in a list
 unfoldable pub are_distinct : List ℕ → Bool
 are_distinct [] = true
 are_distinct (a ∷ rest) = not (has a rest) && are_distinct rest
 
 -- the bare page that a way opens, if it does
-abbrev pub opened : Way → List ℕ
-opened (Open g) = g ∷ []
-opened (Shut l c p w) = []
+abbrev pub open_page : Way → List ℕ
+open_page (Open g) = g ∷ []
+open_page (Shut l c p w) = []
 
-abbrev pub opened_if : Option Way → List ℕ
-opened_if None = []
-opened_if (Some way) = opened way
+abbrev pub open_page_if : Option Way → List ℕ
+open_page_if None = []
+open_page_if (Some way) = open_page way
 
 -- the bare pages that a map opens for reading, one for each such page of the machine
 abbrev pub open_pages : List Slot → List ℕ
-open_pages F = flat_map (λ (s : Slot). opened s.read) F
+open_pages F = flat_map (λ (s : Slot). open_page s.read) F
 
 -- how many pages of table n pages of a child need
 abbrev pub table_pages : ℕ → ℕ
 table_pages n = (n + 1023) / 1024
 
+-- the bare page in which the parent with the map F reads a page of the child's table, if it is named and can be read
 abbrev pub table_open : List Slot → Looked → List ℕ
-table_open F (Named u) = opened_if (reading F u)
+table_open F (Named u) = open_page_if (reading F u)
 table_open F (Stopped way) = []
 
--- The bare pages of a child's table that its parent can read, where F is the parent's map, at level j. In version 2 they are
--- those that the present words of its directory name, one for each such word.
+-- The bare pages of a child's table that its parent can read, where F is the parent's map, at level j. In version 2
+-- they are those that the present words of its directory name, one for each such word.
 abbrev pub tables_of : List ℕ → List Slot → ℕ → Item → List ℕ
 tables_of S F j x =
     flat_map
@@ -50,7 +52,7 @@ tables_of S F j x =
 
 -- in version 2 the bare page of its directory, if its parent can read it
 abbrev pub directory_of : List Slot → Item → List ℕ
-directory_of F x = if x.version == 2 then opened_if (reading F x.table) else []
+directory_of F x = if x.version == 2 then open_page_if (reading F x.table) else []
 
 -- the same of all machines on the way from a machine with the map F, at level j
 unfoldable pub tables_along : List ℕ → List Slot → ℕ → List Item → List ℕ
@@ -65,8 +67,8 @@ blocks_of items = map (λ (x : Item). x.block) items
 abbrev pub is_one : List ℕ → List Item → Bool
 is_one S items = are_distinct (open_pages (map_along S items))
 
--- every bare page that the machine at the end of the items stands on: the blocks of the machines on the way, their tables
--- and directories as far as they can be read, and the pages that the machine can read
+-- every bare page that the machine at the end of the items stands on: the blocks of the machines on the way, their
+-- tables and directories as far as they can be read, and the pages that the machine can read
 abbrev pub standing_on : List ℕ → List Item → List ℕ
 standing_on S items =
     blocks_of items ++ (tables_along S (identity (page_count S)) 0 items ++ open_pages (map_along S items))

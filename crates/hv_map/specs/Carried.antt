@@ -1,6 +1,6 @@
 -- How the map of a machine, and the map that the same machine has where its ancestors are left out, are alike. F is the
--- map of a machine at level k, in a storage S; a storage T is what that machine takes for the bare one. A map of a machine
--- inside it is H as S has it, and G as T has it.
+-- map of a machine at level k, in a storage S; a storage T is what that machine takes for the bare one. A map of a
+-- machine inside it is H as S has it, and G as T has it.
 use Rattle.std.specs.Prelude.{◌≡◌, ℕ, ◌+◌, ◌<◌, ◌⊎◌, List, Option, Some, None, slice_get}
 use Rattle.hv_word.specs.Storage.{word_at}
 use Rattle.hv_store.specs.declared.access.Access.{Access}
@@ -14,8 +14,8 @@ abbrev pub IsBelow : ℕ → Way → Type 0
 IsBelow k (Open g) = ⊥
 IsBelow k (Shut l c p w) = l < k
 
--- the way h for the access a is the other way carried through F: an open page becomes F's way for that page and the same
--- access, and a shut way has its level raised by k
+-- the way h for the access a is the other way carried through F: an open page becomes F's way for that page and the
+-- same access, and a shut way has its level raised by k
 abbrev pub IsCarried : ℕ → List Slot → Access → Way → Way → Type 0
 IsCarried k F a h (Open y) = (s : Slot) × (slice_get F y ≡ Some s) × (h ≡ way_for s a)
 IsCarried k F a h (Shut l c p w) = h ≡ Shut (l + k) c p w

@@ -1,5 +1,5 @@
--- Paths of machines inside machines, and their maps. A path is a list of numbers, from the outside in: each is the page on
--- which the parent has the child's control block. The machine at the end of a path of length j is at level j.
+-- Paths of machines inside machines, and their maps. A path is a list of numbers, from the outside in: each is the page
+-- on which the parent has the child's control block. The machine at the end of a path of length j is at level j.
 use Rattle.std.specs.Prelude.{ℕ, zero, suc, ◌+◌, List, [], ◌∷◌, Option, Some, None, slice_get}
 use Rattle.std.specs.Option.{option_map, option_and_then}
 use Rattle.hv_limits.specs.Limits.{depth_limit}
@@ -36,8 +36,8 @@ abbrev pub child_at : List ℕ → ℕ → Option Slot → Option Item
 child_at S s None = None
 child_at S s (Some slot) = child_through S s slot.write
 
--- The child on page s of a machine with the map F: there is one where the machine has that page, can write it, and finds a
--- well-formed block in it.
+-- The child on page s of a machine with the map F: there is one where the machine has that page, can write it, and
+-- finds a well-formed block in it.
 abbrev pub child_of : List ℕ → List Slot → ℕ → Option Item
 child_of S F s = child_at S s (slice_get F s)
 
@@ -71,7 +71,8 @@ run_on deeper S F j None = []
 run_on deeper S F j (Some x) =
     x.syllable ∷ deeper S (compose S F j x.pages x.table x.version) (j + 1) (regs_at S x.block)
 
--- The path that is found by following next from the registers r of a machine with the map F, at level j, at most n further.
+-- The path that is found by following next from the registers r of a machine with the map F, at level j, at most n
+-- further.
 unfoldable pub running : ℕ → List ℕ → List Slot → ℕ → Regs → List ℕ
 running zero S F j r = []
 running (suc n) S F j r = run_on (running n) S F j (child_next S F r.next)

@@ -1,11 +1,12 @@
--- How a child's map is compose of its parent's. The parent's control block says how many pages n the child has, where its
--- table is, t, and the version v of the block. In version 0 the table begins at the parent's page t; in version 2 the page t
--- is a directory, each of whose words names a page of the table. Bit 0 of a directory or table word says that it is present,
--- bits 31:12 have the parent's page. Bit 1 of a table word lets the page be written; in version 2 bit 2 lets it be fetched.
--- Everything is told of a child of a machine at level j, and a cause is 1 for an absent entry, 2 for a refused write, 3 for
--- an entry that names a page outside the parent's storage, 4 for a table word outside it, 7 for a refused fetch.
--- (After Goldberg's composition of maps, with refusals that say whose they are.)
-use Rattle.std.specs.Prelude.{◌≡◌, ℕ, ◌+◌, ◌/◌, ◌%◌, ◌<◌, Bool, ◌&&◌, ◌==◌, if◌then◌else◌, List, map, Option, Some, None, slice_get}
+-- How a child's map is composed of its parent's. The parent's control block says how many pages n the child has, where
+-- its table is, t, and the version v of the block. In version 0 the table begins at the parent's page t; in version 2
+-- the page t is a directory, each of whose words names a page of the table. Bit 0 of a directory or table word says
+-- that it is present, bits 31:12 have the parent's page. Bit 1 of a table word lets the page be written; in version 2
+-- bit 2 lets it be fetched. Everything is told of a child of a machine at level j, and a cause is 1 for an absent
+-- entry, 2 for a refused write, 3 for an entry that names a page outside the parent's storage, 4 for a table word
+-- outside it, 7 for a refused fetch. (After Goldberg's composition of maps, with refusals that say whose they are.)
+use Rattle.std.specs.Prelude.{◌≡◌, ℕ, ◌+◌, ◌/◌, ◌%◌, ◌<◌, Bool, ◌&&◌, ◌==◌, if◌then◌else◌, List, map, Option, Some}
+use Rattle.std.specs.Prelude.{None, slice_get}
 use Rattle.std.specs.List.{range_with_len}
 use Rattle.std.specs.Option.{option_map, unwrap_or}
 use Rattle.hv_word.specs.Words.{field_of}
@@ -19,8 +20,8 @@ pub data Looked : Type 0 where
   Named : ℕ → Looked
   Stopped : Way → Looked
 
--- The directory or table word k of a page of the parent, for the child's page i, where the parent's way for reading that
--- page is given, none where the parent has no such page. A way that is shut says which word couldn't be read.
+-- The directory or table word k of a page of the parent, for the child's page i, where the parent's way for reading
+-- that page is given, none where the parent has no such page. A way that is shut says which word couldn't be read.
 abbrev pub present : ℕ → ℕ → ℕ → Looked
 present j i w = if w % 2 == 0 then Stopped (Shut j 1 i None) else Named w
 
@@ -34,7 +35,8 @@ abbrev pub page_named : Looked → Looked
 page_named (Named d) = Named (field_of d 12 20)
 page_named (Stopped way) = Stopped way
 
--- The parent's page where the table word of the child's page i is. `reads` gives the parent's ways for reading its pages.
+-- The parent's page where the table word of the child's page i is. `reads` gives the parent's ways for reading its
+-- pages.
 abbrev pub table_of : List ℕ → (ℕ → Option Way) → ℕ → ℕ → ℕ → ℕ → Looked
 table_of S reads j t v i =
     if v == 2 then page_named (look S j i (i / 1024) (reads t)) else Named (t + i / 1024)
@@ -90,4 +92,9 @@ compose S F j n t v = map (compose_slot S F j t v) (range_with_len 0 n)
 -- its pages, and in version 2 the directory words that name their tables, as far as F lets the parent read them.
 pub record EachTableWord (P : ℕ → ℕ → Type 0) (S : List ℕ) (F : List Slot) (j n t v : ℕ) : Type 0 where
   pub directory : (i g : ℕ) → i < n → v ≡ 2 → reading F t ≡ Some (Open g) → P g (i / 1024)
-  pub table : (i u g : ℕ) → i < n → table_of S (reading F) j t v i ≡ Named u → reading F u ≡ Some (Open g) → P g (i % 1024)
+  pub table :
+      (i u g : ℕ)
+      → i < n
+      → table_of S (reading F) j t v i ≡ Named u
+      → reading F u ≡ Some (Open g)
+      → P g (i % 1024)

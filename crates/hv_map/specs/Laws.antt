@@ -1,4 +1,4 @@
--- The laws of compose maps, as statements.
+-- The laws of composed maps, as statements.
 use Rattle.std.specs.Prelude.{◌≡◌, ℕ, ◌+◌, ◌^◌, ◌≤◌, ◌⊎◌, List, ◌++◌, length, Option, Some, slice_get}
 use Rattle.hv_word.specs.Storage.{page_count, word_at}
 use Rattle.hv_cpu.specs.Regs.{Regs}
@@ -19,7 +19,8 @@ use Rattle.hv_map.specs.Carried.{Agree, MapLike, Opens, OpensSame, ShutAt, ShutB
 abbrev pub SizeLaw : Type 0
 SizeLaw = (S : List ℕ) (F : List Slot) (j n t v : ℕ) → length (compose S F j n t v) ≡ n
 
--- it is the same for two storages that agree on the words of its table and directory, as far as the parent can read them
+-- it is the same for two storages that agree on the words of its table and directory, as far as the parent can read
+-- them
 abbrev pub TableLaw : Type 0
 TableLaw =
     (S A : List ℕ) (F : List Slot) (j n t v : ℕ)
@@ -34,7 +35,8 @@ OpensLaw =
     → way_for s a ≡ Open x
     → Opens F a x
 
--- where the parent's open ways for writing and fetching are its open ways for reading of the same pages, so are the child's
+-- where the parent's open ways for writing and fetching are its open ways for reading of the same pages, so are the
+-- child's
 abbrev pub SameLaw : Type 0
 SameLaw = (S : List ℕ) (F : List Slot) (j n t v : ℕ) → OpensSame F → OpensSame (compose S F j n t v)
 
@@ -47,8 +49,8 @@ LevelLaw =
     → (l ≡ j) ⊎ ShutAt F l
 
 -- Let F be the map of a machine at level k in S, and T agree with S through F. Where H is a map of S and G one of T, of
--- machines at the levels j + k and j, and each way of H is shut below k or is the way of G carried through F, the maps of
--- their children with the same pages, table and version are so too. (A well-formed block has at most 2 ^ 20 pages.)
+-- machines at the levels j + k and j, and each way of H is shut below k or is the way of G carried through F, the maps
+-- of their children with the same pages, table and version are so too. (A well-formed block has at most 2 ^ 20 pages.)
 abbrev pub CarryLaw : Type 0
 CarryLaw =
     (k : ℕ) (F : List Slot) (S T : List ℕ) (H G : List Slot) (j n t v : ℕ)
@@ -58,7 +60,8 @@ CarryLaw =
     → MapLike k F H G
     → MapLike k F (compose S H (j + k) n t v) (compose T G j n t v)
 
--- for every path with a map, the way of each of its pages, for each access, is the one that is found from the inside out
+-- for every path with a map, the way of each of its pages, for each access, is the one that is found from the inside
+-- out
 abbrev pub TrailLaw : Type 0
 TrailLaw =
     (S path : List ℕ) (F : List Slot) (i : ℕ) (s : Slot) (a : Access)
@@ -66,9 +69,9 @@ TrailLaw =
     → slice_get F i ≡ Some s
     → trail_of S path i a ≡ Some (way_for s a)
 
--- Maps associate: where there is a map of the path p followed by q, there is one of p, and one of q in what the machine at
--- the end of p sees, with as many slots. Each way of the first is refused at a level below the length of p, or is the way
--- of the last carried through the map of p.
+-- Maps associate: where there is a map of the path p followed by q, there is one of p, and one of q in what the machine
+-- at the end of p sees, with as many slots. Each way of the first is refused at a level below the length of p, or is
+-- the way of the last carried through the map of p.
 abbrev pub AssociativeLaw : Type 0
 AssociativeLaw =
     (S p q : List ℕ) (H : List Slot)

@@ -1,5 +1,6 @@
 -- The maps along a chain, level by level, and how many table words it may take to find a page's slot in them.
-use Rattle.std.specs.Prelude.{ℕ, ◌*◌, ◌^◌, ◌<◌, Bool, not, ◌==◌, IfSome, nat_lt, if◌then◌else◌, List, reverse, take, count_by, Result, Ok, Err, Option, Some, None}
+use Rattle.std.specs.Prelude.{ℕ, ◌*◌, ◌^◌, ◌<◌, Bool, not, ◌==◌, IfSome, nat_lt, if◌then◌else◌, List, reverse, take}
+use Rattle.std.specs.Prelude.{count_by, Result, Ok, Err, Option, Some, None}
 use Rattle.hv_word.specs.Words.{field_of}
 use Rattle.hv_word.specs.Storage.{page_count}
 use Rattle.hv_store.specs.declared.access.Slot.{Slot}

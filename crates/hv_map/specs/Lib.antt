@@ -7,6 +7,7 @@ pub mod Item
 pub mod Laws
 pub mod Levels
 pub mod Links
+pub mod Noted
 pub mod Seen
 pub mod Trail
 pub mod Words

@@ -1,5 +1,5 @@
--- The way of one page of a machine, found from the inside out: the page of its parent that its entry names, the page of the
--- grandparent that the entry of that page names, and so on to the bare page, or to the map that refuses.
+-- The way of one page of a machine, found from the inside out: the page of its parent that its entry names, the page of
+-- the grandparent that the entry of that page names, and so on to the bare page, or to the map that refuses.
 use Rattle.std.specs.Prelude.{ℕ, Bool, nat_lt, if◌then◌else◌, List, [], ◌∷◌, length, reverse, Option, Some, None}
 use Rattle.std.specs.Option.{option_map}
 use Rattle.hv_word.specs.Words.{field_of}

@@ -18,8 +18,8 @@ abbrev pub EachChain : (ℕ → ℕ → Type 0) → List ℕ → List Slot → �
 EachChain P S F j [] = Unit {0}
 EachChain P S F j (x ∷ xs) = EachItem P S F j x × EachChain P S (compose S F j x.pages x.table x.version) (j + 1) xs
 
--- x is on its page of a machine with the map F: the block's page is the one that can be written there, and its words say
--- pages, table and version. (Its registers may be anything: the machine that holds it may have spoiled them.)
+-- x is on its page of a machine with the map F: the block's page is the one that can be written there, and its words
+-- say pages, table and version. (Its registers may be anything: the machine that holds it may have spoiled them.)
 pub record IsChild (S : List ℕ) (F : List Slot) (x : Item) : Type 0 where
   pub slot : Slot
   pub there : slice_get F x.syllable ≡ Some slot

@@ -13,17 +13,6 @@ use hv_word::field;
 use std::marker::Brand;
 use std::sync::ledger::{Blank, Ledger};
 
-impl Chain {
-    /// The number of pages of the last machine, or of the store where the chain has none.
-    #[tactic(auto, using(crate::proofs::Levels::chains))]
-    pub fn pages(&self, store: &Store) -> u32
-        ensures pages { result ≡ length (map_along store.now self.now) }
-        ensures bound { result ≤ 2 ^ 20 }
-    {
-        pages_at(store, self, self.len())
-    }
-}
-
 /// Where page `page` of the chain's machine lies. It opens bare pages of the store alone, and a way of it that is shut is
 /// shut at a level below the chain's length. For a chain of `a` blocks of version 0 and `b` of version 2, at most
 /// `2^a * 3^b - 1` table words are read.
@@ -37,8 +26,8 @@ pub fn resolve<L: Ledger>(store: &Store, chain: &Chain, page: u32, steps: &mut S
     resolve_at(store, chain, chain.len(), page, steps)
 }
 
-// The same where no steps are counted.
-pub(crate) fn page_slot(store: &Store, chain: &Chain, page: u32) -> Slot
+/// The same where no steps are counted.
+pub fn page_slot(store: &Store, chain: &Chain, page: u32) -> Slot
     requires { page < length (map_along store.now chain.now) }
     ensures slot { slice_get (map_along store.now chain.now) page ≡ Some result }
     ensures within { IsWithin (page_count store.now) (length chain.now) result }
@@ -243,7 +232,7 @@ fn look_at<L: Ledger>(
 }
 
 // A directory or table word, where it is present.
-fn present(level: u32, page: u32, word: u32) -> Result<u32, Way>
+pub(crate) fn present(level: u32, page: u32, word: u32) -> Result<u32, Way>
     ensures word { looked result ≡ present level page word }
     ensures shut { IfErr result (λ way. way ≡ Shut level 1 page None) }
 {
@@ -254,7 +243,7 @@ fn present(level: u32, page: u32, word: u32) -> Result<u32, Way>
 }
 
 // A way that the machine at a level shuts for its child's page.
-fn shut(level: u32, cause: u32, page: u32) -> Way
+pub(crate) fn shut(level: u32, cause: u32, page: u32) -> Way
     ensures { result ≡ Shut level cause page None }
 {
     Way::Shut {
@@ -266,7 +255,7 @@ fn shut(level: u32, cause: u32, page: u32) -> Way
 }
 
 // One way for every access.
-fn every(way: Way) -> Slot
+pub(crate) fn every(way: Way) -> Slot
     ensures { result ≡ every way }
 {
     Slot {
@@ -277,7 +266,7 @@ fn every(way: Way) -> Slot
 }
 
 // What an entry of a child's table leaves of the slot of the page that it names.
-fn granted(level: u32, version: u32, page: u32, entry: u32, slot: Slot) -> Slot
+pub(crate) fn granted(level: u32, version: u32, page: u32, entry: u32, slot: Slot) -> Slot
     ensures { result ≡ granted level version page entry slot }
 {
     Slot {

@@ -75,7 +75,7 @@ fn a_machine_inside_runs(rt: HostRuntime) -> Result<(), Fail> {
     assert_eq!(rt; outcome.changed.rows[1], ChangedRow { at: 1025, value: 5 });
     assert_eq!(rt; outcome.changed.rows[2], ChangedRow { at: 0, value: 0 });
     let cpu = engine.cpu(0);
-    assert_eq!(rt; (cpu.pc, cpu.next, cpu.x5), (12, Some(1), 0x1000));
+    assert_eq!(rt; (cpu.pc, cpu.next, cpu.x(5)), (12, Some(1), 0x1000));
     engine.lines(0, 0x80);
     assert_eq!(rt; engine.cpu(0).mip, 0x80);
     assert_eq!(rt; engine.harts(), 1);

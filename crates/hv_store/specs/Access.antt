@@ -1,5 +1,5 @@
--- What a machine sees of a storage. A machine's map is a list of slots, one for each of its pages: after Goldberg's map of
--- resource names, which is a partial function. A storage is the list of its words, 1024 in a page.
+-- What a machine sees of a storage. A machine's map is a list of slots, one for each of its pages: after Goldberg's map
+-- of resource names, which is a partial function. A storage is the list of its words, 1024 in a page.
 use Rattle.std.specs.Prelude.{ℕ, ◌+◌, ◌*◌, List, map, Option, None, Some, Result, Ok, Err, slice_get}
 use Rattle.std.specs.List.{range_with_len}
 use Rattle.hv_word.specs.declared.Lane.{Lane}
@@ -26,8 +26,8 @@ open_at g = record { read = Open g; write = Open g; fetch = Open g }
 unfoldable pub identity : ℕ → List Slot
 identity pages = map open_at (range_with_len 0 pages)
 
--- The refusal of a way that is shut at level l with cause c, for an access a to word k. Where a table word w couldn't be
--- read, it names that word, which was read; else it names word k of page p and the access a.
+-- The refusal of a way that is shut at level l with cause c, for an access a to word k. Where a table word w couldn't
+-- be read, it names that word, which was read; else it names word k of page p and the access a.
 abbrev pub refused : ℕ → ℕ → ℕ → Option ℕ → ℕ → Access → Refusal
 refused l c p (Some w) k a = record { level = l; cause = c; address = 4096 * p + 4 * w; access = Read }
 refused l c p None k a = record { level = l; cause = c; address = 4096 * p + 4 * k; access = a }
@@ -41,8 +41,8 @@ abbrev pub get_at : List ℕ → Option Slot → ℕ → Access → Option (Resu
 get_at S None k a = None
 get_at S (Some s) k a = Some (read_through S (way_for s a) k a)
 
--- Word k of a page of the machine with the map F, for an access a: none where the machine has no such page, and else the
--- word or the refusal.
+-- Word k of a page of the machine with the map F, for an access a: none where the machine has no such page, and else
+-- the word or the refusal.
 abbrev pub get : List ℕ → List Slot → ℕ → ℕ → Access → Option (Result ℕ Refusal)
 get S F page k a = get_at S (slice_get F page) k a
 
@@ -55,7 +55,8 @@ abbrev pub put_at : List ℕ → Option Slot → ℕ → Lane → ℕ → Option
 put_at S None k lane v = None
 put_at S (Some s) k lane v = Some (write_through S s.write k lane v)
 
--- The storage after a write of a lane of word k of a page of the machine with the map F; a refusal gives no new storage.
+-- The storage after a write of a lane of word k of a page of the machine with the map F; a refusal gives no new
+-- storage.
 abbrev pub set : List ℕ → List Slot → ℕ → ℕ → Lane → ℕ → Option (Result (List ℕ) Refusal)
 set S F page k lane v = put_at S (slice_get F page) k lane v
 

@@ -36,6 +36,7 @@ pub trait Space {
     ghost room: { Self → ℕ };
 
     ghost use Rattle.hv_store.specs.Access.{get, set, cleared, with_storage};
+    ghost use Rattle.hv_store.specs.Stays.{Reads, Stays, Untouched};
 
     /// The number of the machine's pages.
     fn pages(&self) -> u32
@@ -48,13 +49,7 @@ pub trait Space {
         requires room { 0 < room self.old }
         ensures gives { Some result ≡ get (storage self.old) (slots self.old) page word access }
         ensures level { IfErr result (λ e. e.level < depth self.old) }
-        ensures storage { storage self.new ≡ storage self.old }
-        ensures slots { slots self.new ≡ slots self.old }
-        ensures depth { depth self.new ≡ depth self.old }
-        ensures place { place self.new ≡ place self.old }
-        ensures frame { frame self.new ≡ frame self.old }
-        ensures origin { origin self.new ≡ origin self.old }
-        ensures room { room self.new ≡ room self.old };
+        ensures reads { Reads storage slots depth place frame origin room self.old self.new };
 
     /// Writes a lane of word `word` (0 to 1023) of the machine's page `page`.
     fn write(&mut self, page: u32, word: u32, lane: Lane, value: u32) -> Result<(), Refusal>
@@ -63,26 +58,16 @@ pub trait Space {
         requires lane { IsLane lane }
         requires room { 0 < room self.old }
         ensures gives { Some (with_storage result (storage self.new)) ≡ set (storage self.old) (slots self.old) page word lane value }
-        ensures len { length (storage self.new) ≡ length (storage self.old) }
         ensures level { IfErr result (λ e. e.level < depth self.old) }
-        ensures err_storage { OnErr result (storage self.new ≡ storage self.old) }
-        ensures err_slots { OnErr result (slots self.new ≡ slots self.old) }
-        ensures depth { depth self.new ≡ depth self.old }
-        ensures place { place self.new ≡ place self.old }
-        ensures frame { frame self.new ≡ frame self.old }
-        ensures origin { origin self.new ≡ origin self.old };
+        ensures err { OnErr result (Untouched storage slots self.old self.new) }
+        ensures stays { Stays storage depth place frame origin self.old self.new };
 
     /// Sets words 72 to 74 of the machine's page `page` to zero, in the bare page that is found for word 72.
     fn clear_fault(&mut self, page: u32) -> Result<(), Refusal>
         requires page { page < length (slots self.old) }
         requires room { 0 < room self.old }
         ensures gives { Some (with_storage result (storage self.new)) ≡ cleared (storage self.old) (slots self.old) page }
-        ensures len { length (storage self.new) ≡ length (storage self.old) }
         ensures level { IfErr result (λ e. e.level < depth self.old) }
-        ensures err_storage { OnErr result (storage self.new ≡ storage self.old) }
-        ensures err_slots { OnErr result (slots self.new ≡ slots self.old) }
-        ensures depth { depth self.new ≡ depth self.old }
-        ensures place { place self.new ≡ place self.old }
-        ensures frame { frame self.new ≡ frame self.old }
-        ensures origin { origin self.new ≡ origin self.old };
+        ensures err { OnErr result (Untouched storage slots self.old self.new) }
+        ensures stays { Stays storage depth place frame origin self.old self.new };
 }

@@ -31,7 +31,7 @@ impl Model for Store {
 }
 
 impl Store {
-    /// A storage of 1 to 16384 pages, all words zero.
+    /// A storage of 1 to PAGES pages, all words zero.
     #[tactic(auto, unfolding(crate::specs::Zeros::zeros))]
     pub fn new(alloc: Global, pages: u32) -> Result<Store, AllocError>
         requires some { 1 ≤ pages }
@@ -43,6 +43,7 @@ impl Store {
     }
 
     /// The number of pages.
+    #[inline(always)]
     pub fn pages(&self) -> u32
         ensures words { length self.now ≡ 1024 * result }
         ensures count { result ≡ page_count self.now }
@@ -53,6 +54,7 @@ impl Store {
     }
 
     /// The word at a place, counted from 0.
+    #[inline(always)]
     pub fn get(&self, at: u32) -> u32
         requires { at < length self.now }
         ensures { result ≡ slice_index self.now at }
@@ -61,6 +63,7 @@ impl Store {
     }
 
     /// Replaces the word at a place, counted from 0.
+    #[inline(always)]
     pub fn put(&mut self, at: u32, value: u32)
         requires { at < length self.old }
         ensures { self.new ≡ slice_set self.old at value }
@@ -89,15 +92,18 @@ impl Space for Store {
 
     ghost room = { λ _. 1 };
 
+    #[inline(always)]
     fn pages(&self) -> u32 {
         Store::pages(self)
     }
 
+    #[inline(always)]
     fn read(&mut self, page: u32, word: u32, _access: Access) -> Result<u32, Refusal> {
         let _pages = Store::pages(self);
         Ok(self.get(1024 * page + word))
     }
 
+    #[inline(always)]
     fn write(&mut self, page: u32, word: u32, lane: Lane, value: u32) -> Result<(), Refusal> {
         let _pages = Store::pages(self);
         let at = 1024 * page + word;

@@ -47,8 +47,8 @@ is_plain e = not (is_user e) && (not (is_accessed e) && not (is_dirty e))
 abbrev pub page_of : ℕ → ℕ
 page_of e = field_of e 10 22
 
--- The mode that an access is made in, 0 for U, 1 for S and 3 for M. MPRV, bit 17 of mstatus, puts MPP, bits 12:11, in the
--- place of the mode for loads and stores; it never changes a fetch.
+-- The mode that an access is made in, 0 for U, 1 for S and 3 for M. MPRV, bit 17 of mstatus, puts MPP, bits 12:11, in
+-- the place of the mode for loads and stores; it never changes a fetch.
 abbrev pub data_mode : Regs → ℕ
 data_mode r = if has_bit r.mstatus 17 then field_of r.mstatus 11 2 else r.mode
 

@@ -1,6 +1,7 @@
 -- What a walk comes to, and how an answer of the code says it.
-use Rattle.std.specs.Prelude.{ℕ, ◌/◌, ◌%◌, ◌<◌, Result, Ok, Err}
+use Rattle.std.specs.Prelude.{ℕ, ◌/◌, ◌%◌, ◌^◌, ◌<◌, List, length, Result, Ok, Err, IfOk, IfErr}
 use Rattle.hv_store.specs.declared.access.Refusal.{Refusal}
+use Rattle.hv_store.specs.declared.access.Slot.{Slot}
 use Rattle.hv_sv32.specs.declared.Stop.{Stop}
 use Rattle.hv_sv32.specs.declared.Stop.TheVariants.{Trap, Refused}
 
@@ -25,3 +26,11 @@ IsCause (Refused refusal) = Unit {0}
 abbrev pub IsBelow : ℕ → Stop → Type 0
 IsBelow depth (Trap cause tval) = Unit {0}
 IsBelow depth (Refused refusal) = refusal.level < depth
+
+-- An answer fits the machine with the map F: an address lies in a page of it and has at most 34 bits, a cause is one of
+-- the numbers 0 to 15, and a refusal's level is below the machine's.
+pub record FitsMachine (F : List Slot) (depth : ℕ) (answer : Result ℕ Stop) : Type 0 where
+  pub inside : IfOk answer (λ place. place / 4096 < length F)
+  pub short : IfOk answer (λ place. place < 2 ^ 34)
+  pub cause : IfErr answer IsCause
+  pub level : IfErr answer (IsBelow depth)

@@ -1,6 +1,7 @@
--- The page walk of Sv32, with its tests in the order of the manual. An entry is read as a load of the machine's storage is,
--- and nothing is ever written. (Privileged Architecture, sections 4.1.11 and 4.3.)
-use Rattle.std.specs.Prelude.{ℕ, ◌+◌, ◌*◌, ◌/◌, ◌%◌, ◌==◌, ◌&&◌, ◌||◌, Bool, nat_lt, if◌then◌else◌, List, length, Option, Some, None, Result, Ok, Err}
+-- The page walk of Sv32, with its tests in the order of the manual. An entry is read as a load of the machine's storage
+-- is, and nothing is ever written. (Privileged Architecture, sections 4.1.11 and 4.3.)
+use Rattle.std.specs.Prelude.{ℕ, ◌+◌, ◌*◌, ◌/◌, ◌%◌, ◌==◌, ◌&&◌, ◌||◌, Bool, nat_lt, if◌then◌else◌, List, length}
+use Rattle.std.specs.Prelude.{Option, Some, None, Result, Ok, Err}
 use Rattle.hv_word.specs.Words.{field_of}
 use Rattle.hv_cpu.specs.Regs.{Regs}
 use Rattle.hv_store.specs.declared.access.Access.{Access}
@@ -68,9 +69,11 @@ from_first S F r address a (Some (Ok e)) = at_first S F r address a e
 
 -- through the first table, whose page bits 21:0 of satp name; bits 31:22 of the address choose the entry
 abbrev pub through_first : List ℕ → List Slot → Regs → ℕ → Access → Walked
-through_first S F r address a = from_first S F r address a (get S F (field_of r.satp 0 22) (field_of address 22 10) Read)
+through_first S F r address a =
+    from_first S F r address a (get S F (field_of r.satp 0 22) (field_of address 22 10) Read)
 
--- Whether an access isn't translated: in mode M, or while bit 31 of satp is clear. Its address is then that of the storage.
+-- Whether an access isn't translated: in mode M, or while bit 31 of satp is clear. Its address is then that of the
+-- storage.
 abbrev pub is_bare : Regs → Access → Bool
 is_bare r a = (effective_mode r a == 3) || (field_of r.satp 31 1 == 0)
 

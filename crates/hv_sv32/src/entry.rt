@@ -4,6 +4,7 @@ ghost use Rattle.std.specs.Prelude.{◌≡◌, ◌+◌, ◌≤◌};
 ghost use Rattle.hv_cpu.specs.Modes.{mode_word};
 ghost use Rattle.hv_sv32.specs.Entry as spec;
 
+use hv_cpu::mstatus::{MPP, MPP_BITS, MPRV, MXR, SUM};
 use hv_cpu::{Cpu, Mode};
 use hv_store::Access;
 use hv_word::field;
@@ -22,13 +23,6 @@ const USER: u32 = 4;
 const ACCESSED: u32 = 6;
 
 const DIRTY: u32 = 7;
-
-// Bits of mstatus: loads and stores are made in the mode of MPP, S reaches pages of U, and what can be executed can be read.
-const MPRV: u32 = 17;
-
-const SUM: u32 = 18;
-
-const MXR: u32 = 19;
 
 fn has_bit<const AT: u32>(word: u32) -> bool
     requires { AT + 1 ≤ 32 }
@@ -63,7 +57,7 @@ pub fn effective_mode(cpu: &Cpu, access: Access) -> Mode
     ensures { mode_word result ≡ spec.effective_mode cpu.now access }
 {
     if access != Access::Fetch && has_bit::<MPRV>(cpu.mstatus) {
-        match Mode::from_word(field::<11, 2>(cpu.mstatus)) {
+        match Mode::from_word(field::<MPP, MPP_BITS>(cpu.mstatus)) {
             Some(mode) => mode,
             None => unreachable!(),
         }

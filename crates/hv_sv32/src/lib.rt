@@ -1,8 +1,9 @@
 //! The page walk: from an address that an instruction uses to an address of the machine's storage.
 #![tactic(auto)]
 
-ghost use Rattle.std.specs.Prelude.{◌≡◌, ◌/◌, ◌^◌, ◌<◌, IfErr, IfOk, length};
-ghost use Rattle.hv_sv32.specs.Stop.{IsBelow, IsCause, walked};
+ghost use Rattle.std.specs.Prelude.{◌≡◌, ◌^◌, ◌<◌};
+ghost use Rattle.hv_store.specs.Space.{OnlyReads};
+ghost use Rattle.hv_sv32.specs.Stop.{FitsMachine, walked};
 ghost use Rattle.hv_sv32.specs.Walk.{access_fault_of, at_first, at_second, is_bare, page_fault_of, placed, through_first, through_second, walk_of};
 
 mod entry;
@@ -24,6 +25,7 @@ pub enum Stop {
 
 /// The address in storage of the byte that `address` names for an access, by the Sv32 page table of `cpu`. It is 4096 times
 /// a page of the machine and an offset, with at most 34 bits. Nothing is written.
+#[inline(always)]
 pub fn translate<S: Space>(
     cpu: &Cpu,
     space: &mut S,
@@ -32,17 +34,8 @@ pub fn translate<S: Space>(
 ) -> Result<u64, Stop>
     requires { 0 < S.room space.old }
     ensures walks { walked result ≡ walk_of (S.storage space.old) (S.slots space.old) cpu.now address access }
-    ensures inside { IfOk result (λ place. place / 4096 < length (S.slots space.old)) }
-    ensures short { IfOk result (λ place. place < 2 ^ 34) }
-    ensures cause { IfErr result IsCause }
-    ensures level { IfErr result (IsBelow (S.depth space.old)) }
-    ensures storage { S.storage space.new ≡ S.storage space.old }
-    ensures slots { S.slots space.new ≡ S.slots space.old }
-    ensures depth { S.depth space.new ≡ S.depth space.old }
-    ensures place { S.place space.new ≡ S.place space.old }
-    ensures frame { S.frame space.new ≡ S.frame space.old }
-    ensures origin { S.origin space.new ≡ S.origin space.old }
-    ensures room { S.room space.new ≡ S.room space.old }
+    ensures fits { FitsMachine (S.slots space.old) (S.depth space.old) result }
+    ensures reads { OnlyReads S.Space space.old space.new }
 {
     if is_untranslated(cpu, access) {
         place(space, address / 4096, address, access)
@@ -51,21 +44,13 @@ pub fn translate<S: Space>(
     }
 }
 
-// From the first table on.
+// From the first table on. It is no part of `translate`, which answers at once where there is no table.
+#[inline(never)]
 fn walk<S: Space>(cpu: &Cpu, space: &mut S, address: u32, access: Access) -> Result<u64, Stop>
     requires { 0 < S.room space.old }
     ensures walks { walked result ≡ through_first (S.storage space.old) (S.slots space.old) cpu.now address access }
-    ensures inside { IfOk result (λ place. place / 4096 < length (S.slots space.old)) }
-    ensures short { IfOk result (λ place. place < 2 ^ 34) }
-    ensures cause { IfErr result IsCause }
-    ensures level { IfErr result (IsBelow (S.depth space.old)) }
-    ensures storage { S.storage space.new ≡ S.storage space.old }
-    ensures slots { S.slots space.new ≡ S.slots space.old }
-    ensures depth { S.depth space.new ≡ S.depth space.old }
-    ensures place { S.place space.new ≡ S.place space.old }
-    ensures frame { S.frame space.new ≡ S.frame space.old }
-    ensures origin { S.origin space.new ≡ S.origin space.old }
-    ensures room { S.room space.new ≡ S.room space.old }
+    ensures fits { FitsMachine (S.slots space.old) (S.depth space.old) result }
+    ensures reads { OnlyReads S.Space space.old space.new }
 {
     let table = field::<0, 22>(cpu.satp);
     if table >= space.pages() {
@@ -87,17 +72,8 @@ fn first_entry<S: Space>(
 ) -> Result<u64, Stop>
     requires { 0 < S.room space.old }
     ensures walks { walked result ≡ at_first (S.storage space.old) (S.slots space.old) cpu.now address access entry }
-    ensures inside { IfOk result (λ place. place / 4096 < length (S.slots space.old)) }
-    ensures short { IfOk result (λ place. place < 2 ^ 34) }
-    ensures cause { IfErr result IsCause }
-    ensures level { IfErr result (IsBelow (S.depth space.old)) }
-    ensures storage { S.storage space.new ≡ S.storage space.old }
-    ensures slots { S.slots space.new ≡ S.slots space.old }
-    ensures depth { S.depth space.new ≡ S.depth space.old }
-    ensures place { S.place space.new ≡ S.place space.old }
-    ensures frame { S.frame space.new ≡ S.frame space.old }
-    ensures origin { S.origin space.new ≡ S.origin space.old }
-    ensures room { S.room space.new ≡ S.room space.old }
+    ensures fits { FitsMachine (S.slots space.old) (S.depth space.old) result }
+    ensures reads { OnlyReads S.Space space.old space.new }
 {
     if is_faulty(entry) {
         Err(page_fault(address, access))
@@ -129,17 +105,8 @@ fn descend<S: Space>(
 ) -> Result<u64, Stop>
     requires { 0 < S.room space.old }
     ensures walks { walked result ≡ through_second (S.storage space.old) (S.slots space.old) cpu.now table address access }
-    ensures inside { IfOk result (λ place. place / 4096 < length (S.slots space.old)) }
-    ensures short { IfOk result (λ place. place < 2 ^ 34) }
-    ensures cause { IfErr result IsCause }
-    ensures level { IfErr result (IsBelow (S.depth space.old)) }
-    ensures storage { S.storage space.new ≡ S.storage space.old }
-    ensures slots { S.slots space.new ≡ S.slots space.old }
-    ensures depth { S.depth space.new ≡ S.depth space.old }
-    ensures place { S.place space.new ≡ S.place space.old }
-    ensures frame { S.frame space.new ≡ S.frame space.old }
-    ensures origin { S.origin space.new ≡ S.origin space.old }
-    ensures room { S.room space.new ≡ S.room space.old }
+    ensures fits { FitsMachine (S.slots space.old) (S.depth space.old) result }
+    ensures reads { OnlyReads S.Space space.old space.new }
 {
     if table >= space.pages() {
         return Err(access_fault(address, access));
@@ -159,10 +126,7 @@ fn second_entry<S: Space>(
     access: Access,
 ) -> Result<u64, Stop>
     ensures walks { walked result ≡ at_second (S.slots space.now) cpu.now address access entry }
-    ensures inside { IfOk result (λ place. place / 4096 < length (S.slots space.now)) }
-    ensures short { IfOk result (λ place. place < 2 ^ 34) }
-    ensures cause { IfErr result IsCause }
-    ensures level { IfErr result (IsBelow (S.depth space.now)) }
+    ensures fits { FitsMachine (S.slots space.now) (S.depth space.now) result }
 {
     if is_faulty(entry) {
         Err(page_fault(address, access))
@@ -174,13 +138,11 @@ fn second_entry<S: Space>(
 }
 
 // The address of the byte in a page of 22 bits, if the machine has that page.
+#[inline(always)]
 fn place<S: Space>(space: &S, page: u32, address: u32, access: Access) -> Result<u64, Stop>
     requires { page < 2 ^ 22 }
     ensures walks { walked result ≡ placed (S.slots space.now) page address access }
-    ensures inside { IfOk result (λ place. place / 4096 < length (S.slots space.now)) }
-    ensures short { IfOk result (λ place. place < 2 ^ 34) }
-    ensures cause { IfErr result IsCause }
-    ensures level { IfErr result (IsBelow (S.depth space.now)) }
+    ensures fits { FitsMachine (S.slots space.now) (S.depth space.now) result }
 {
     if page < space.pages() {
         Ok(u64::from(page) * 4096 + u64::from(address % 4096))
@@ -190,6 +152,7 @@ fn place<S: Space>(space: &S, page: u32, address: u32, access: Access) -> Result
 }
 
 // Whether the address is that of the storage already: without a page table, or in mode M.
+#[inline(always)]
 fn is_untranslated(cpu: &Cpu, access: Access) -> bool
     ensures { result ≡ is_bare cpu.now access }
 {

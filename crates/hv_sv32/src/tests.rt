@@ -5,19 +5,18 @@ ghost use Rattle.hv_word.specs.Words.{field_of};
 ghost use Rattle.hv_cpu.specs.Masks.{mstatus_mask};
 
 use super::*;
+use hv_cpu::mstatus::{MPP, MPRV, MXR, SUM};
 use hv_cpu::reset;
 use hv_store::Store;
 use std::alloc::{AllocError, Global};
 use std::process::Abort;
 use std::test::Fail;
 
-// MPRV, with S in MPP.
-const AS_S: u32 = 0x0002_0800;
+// Loads and stores are made in mode S.
+const AS_S: u32 = (1 << MPRV) | (1 << MPP);
 
-// The same with MXR.
-const AS_S_MXR: u32 = 0x000A_0800;
-
-const SUM: u32 = 0x0004_0000;
+// The same, and what can be executed can be read.
+const AS_S_MXR: u32 = AS_S | (1 << MXR);
 
 // A hart in a mode, whose first table is in page 1.
 fn hart(mode: Mode, mstatus: u32) -> Cpu
@@ -66,7 +65,7 @@ fn walks(
 }
 
 #[test]
-fn large_pages(rt: HostRuntime) -> Result<(), Fail> {
+fn a_large_page_is_found_by_one_entry(rt: HostRuntime) -> Result<(), Fail> {
     let cases = [
         (0x0000_04CF, Access::Read, trap(13, 0x124)),
         (0x0000_008F, Access::Read, trap(13, 0x124)),
@@ -83,7 +82,7 @@ fn large_pages(rt: HostRuntime) -> Result<(), Fail> {
 }
 
 #[test]
-fn other_modes(rt: HostRuntime) -> Result<(), Fail> {
+fn mode_and_mstatus_choose_what_an_entry_lets_through(rt: HostRuntime) -> Result<(), Fail> {
     let read = [
         (0x49, Access::Read, trap(13, 0x124)),
         (0x5F, Access::Read, trap(13, 0x124)),
@@ -99,7 +98,7 @@ fn other_modes(rt: HostRuntime) -> Result<(), Fail> {
         (0x5F, Access::Read, Ok(0x124)),
         (0x5F, Access::Fetch, trap(12, 0x124)),
     ];
-    walks(&rt, rt.alloc(), &hart(Mode::S, SUM), &user)?;
+    walks(&rt, rt.alloc(), &hart(Mode::S, 1 << SUM), &user)?;
     let own = [
         (0x5F, Access::Fetch, Ok(0x124)),
         (0x4F, Access::Read, trap(13, 0x124)),
@@ -109,7 +108,7 @@ fn other_modes(rt: HostRuntime) -> Result<(), Fail> {
 }
 
 #[test]
-fn small_pages(rt: HostRuntime) -> Result<(), Fail> {
+fn a_small_page_is_found_by_two_entries(rt: HostRuntime) -> Result<(), Fail> {
     let cpu = hart(Mode::S, 0);
     let mut store = storage(
         rt.alloc(),
@@ -139,7 +138,7 @@ fn small_pages(rt: HostRuntime) -> Result<(), Fail> {
 }
 
 #[test]
-fn without_a_table(rt: HostRuntime) -> Result<(), Fail> {
+fn without_a_table_an_address_is_its_own_place(rt: HostRuntime) -> Result<(), Fail> {
     let mut store = storage(rt.alloc(), &[])?;
     let cpu = reset();
     assert_eq!(rt;

@@ -6,7 +6,7 @@ use Rattle.std.proofs.lemmas.List.Elements.{All-nil, All-cons, All-append}
 use Rattle.hv_word.specs.Storage.{page_count}
 use Rattle.hv_map.specs.Item.{Item}
 use Rattle.hv_map.specs.Chain.{pin_of}
-use Rattle.hv_apart.proofs.Machines.{pinned_own, pinned_fits}
+use Rattle.hv_map.proofs.Machines.{pinned_own, pinned_fits}
 use Rattle.hv_nest.specs.State.{State}
 use Rattle.hv_nest.specs.Move.{Move, last_of}
 use Rattle.hv_nest.specs.Watched.{no_tally, tally_of, foot, last_block}

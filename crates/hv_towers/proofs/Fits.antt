@@ -7,7 +7,7 @@ use Rattle.std.proofs.lemmas.Option.{slice_get_within}
 use Rattle.hv_word.specs.Words.{field_of, field_put}
 use Rattle.hv_word.specs.Storage.{page_count}
 use Rattle.hv_cpu.specs.Masks.{mstatus_mask, medeleg_mask, mideleg_mask, interrupt_mask, satp_mask}
-use Rattle.hv_cpu.specs.Regs.{Regs, IsKept, with_reg, reg}
+use Rattle.hv_cpu.specs.Regs.{Regs, FitsHart, with_reg, reg}
 use Rattle.hv_csr.specs.Access.{is_barred, is_read_only, csr_read_of, write_at}
 use Rattle.hv_csr.specs.Interrupts.{pending_of}
 use Rattle.hv_csr.specs.Table.{sstatus_mask, ssi, merge, vector, status_of, row_of, csr_of}
@@ -40,20 +40,20 @@ use Rattle.hv_map.specs.Compose.{compose}
 use Rattle.hv_nest.specs.Step.{Stepped, Worked, Recalled, Faulted, Barred, Machine, idle, interrupted, worked, told, put_back, malformed, child_step, child_through, child_at, descended, step_on, step_of, host_step_of}
 
 -- registers with another program counter, another general register, another next or another mstatus
-kept_pc : (r : Regs) (pc : ℕ) → pc % 4 ≡ 0 → IsKept r → IsKept (record r { pc = pc })
+kept_pc : (r : Regs) (pc : ℕ) → pc % 4 ≡ 0 → FitsHart r → FitsHart (record r { pc = pc })
 kept_pc r pc e k = record { aligned = e; mode_fits = k.mode_fits; mode_real = k.mode_real; mstatus = k.mstatus; mpp = k.mpp; mtvec = k.mtvec; mepc = k.mepc; medeleg = k.medeleg; mideleg = k.mideleg; mie = k.mie; mip = k.mip; stvec = k.stvec; sepc = k.sepc; satp = k.satp }
 
-kept_reg : (r : Regs) (i v : ℕ) → IsKept r → IsKept (with_reg r i v)
+kept_reg : (r : Regs) (i v : ℕ) → FitsHart r → FitsHart (with_reg r i v)
 kept_reg r i v k = record { aligned = k.aligned; mode_fits = k.mode_fits; mode_real = k.mode_real; mstatus = k.mstatus; mpp = k.mpp; mtvec = k.mtvec; mepc = k.mepc; medeleg = k.medeleg; mideleg = k.mideleg; mie = k.mie; mip = k.mip; stvec = k.stvec; sepc = k.sepc; satp = k.satp }
 
-kept_next : (r : Regs) (n : ℕ) → IsKept r → IsKept (record r { next = n })
+kept_next : (r : Regs) (n : ℕ) → FitsHart r → FitsHart (record r { next = n })
 kept_next r n k = record { aligned = k.aligned; mode_fits = k.mode_fits; mode_real = k.mode_real; mstatus = k.mstatus; mpp = k.mpp; mtvec = k.mtvec; mepc = k.mepc; medeleg = k.medeleg; mideleg = k.mideleg; mie = k.mie; mip = k.mip; stvec = k.stvec; sepc = k.sepc; satp = k.satp }
 
-kept_advanced : (r : Regs) → IsKept r → IsKept (advanced r)
+kept_advanced : (r : Regs) → FitsHart r → FitsHart (advanced r)
 unfolding advanced
 kept_advanced r k = let e : r.pc % 4 ≡ 0 = k.aligned in kept_pc r (sum_of r.pc 4) (omega (arith, e)) k
 
-kept_given : (r : Regs) (rd v : ℕ) → IsKept r → IsKept (given r rd v)
+kept_given : (r : Regs) (rd v : ℕ) → FitsHart r → FitsHart (given r rd v)
 unfolding given
 kept_given r rd v k = kept_advanced (with_reg r rd v) (kept_reg r rd v k)
 
@@ -84,10 +84,10 @@ status_mpp w v ne s = record {
   mpp = λ e. ne (sym (put_there w v) ∙ e);
 }
 
-kept_status : (r : Regs) (w : ℕ) → Status w → IsKept r → IsKept (record r { mstatus = w })
+kept_status : (r : Regs) (w : ℕ) → Status w → FitsHart r → FitsHart (record r { mstatus = w })
 kept_status r w s k = record { aligned = k.aligned; mode_fits = k.mode_fits; mode_real = k.mode_real; mstatus = s.inside; mpp = s.mpp; mtvec = k.mtvec; mepc = k.mepc; medeleg = k.medeleg; mideleg = k.mideleg; mie = k.mie; mip = k.mip; stvec = k.stvec; sepc = k.sepc; satp = k.satp }
 
-status_of_kept : (r : Regs) → IsKept r → Status r.mstatus
+status_of_kept : (r : Regs) → FitsHart r → Status r.mstatus
 status_of_kept r k = record { inside = k.mstatus; mpp = k.mpp }
 
 on_four : (v : ℕ) → (v - v % 4) % 4 ≡ 0
@@ -100,7 +100,7 @@ entry_aligned v cause interrupt = by (interrupt && (v % 4 == 1))
     by true = omega arith
     by false = on_four v
 
-pub kept_trap : (r : Regs) (cause : ℕ) (interrupt : Bool) (tval : ℕ) → IsKept r → IsKept (take_trap_of r cause interrupt tval)
+pub kept_trap : (r : Regs) (cause : ℕ) (interrupt : Bool) (tval : ℕ) → FitsHart r → FitsHart (take_trap_of r cause interrupt tval)
 kept_trap r cause interrupt tval k = by (goes_down r cause interrupt)
   where
     s : Status r.mstatus
@@ -119,7 +119,7 @@ kept_trap r cause interrupt tval k = by (goes_down r cause interrupt)
         (status_put (field_put r.mstatus 7 1 (field_of r.mstatus 3 1)) 3 1 0 (omega arith) refl refl
         (status_put r.mstatus 7 1 (field_of r.mstatus 3 1) (omega arith) refl refl s))
 
-    by : (t : Bool) → IsKept (cond t
+    by : (t : Bool) → FitsHart (cond t
         (record r { pc = entry_of r.stvec cause interrupt; mode = 1; mstatus = entered_s r.mstatus r.mode; sepc = r.pc; scause = cause_word cause interrupt; stval = tval })
         (record r { pc = entry_of r.mtvec cause interrupt; mode = 3; mstatus = entered_m r.mstatus r.mode; mepc = r.pc; mcause = cause_word cause interrupt; mtval = tval }))
     by true = record { aligned = entry_aligned r.stvec cause interrupt; mode_fits = omega arith; mode_real = λ e. omega (arith, e); mstatus = low.inside; mpp = low.mpp; mtvec = k.mtvec; mepc = k.mepc; medeleg = k.medeleg; mideleg = k.mideleg; mie = k.mie; mip = k.mip; stvec = k.stvec; sepc = k.aligned; satp = k.satp }
@@ -127,7 +127,7 @@ kept_trap r cause interrupt tval k = by (goes_down r cause interrupt)
 
 -- registers that fit a hart, whose next is one of n pages
 pub record Fit (n : ℕ) (r : Regs) : Type 0 where
-  pub kept : IsKept r
+  pub kept : FitsHart r
   pub next : r.next < n
 
 abbrev FitIf : ℕ → Option Regs → Type 0
@@ -171,7 +171,7 @@ field_small w = omega arith
 fit_mret : (n : ℕ) (r : Regs) → Fit n r → FitIf n (mret_of r)
 fit_mret n r f = by (r.mode == 3)
   where
-    k : IsKept r
+    k : FitsHart r
     k = f.kept
 
     s : Status (unprivileged (left_m r.mstatus) (field_of r.mstatus 11 2))
@@ -187,7 +187,7 @@ fit_mret n r f = by (r.mode == 3)
 fit_sret : (n : ℕ) (r : Regs) → Fit n r → FitIf n (sret_of r)
 fit_sret n r f = by (may_sret r)
   where
-    k : IsKept r
+    k : FitsHart r
     k = f.kept
 
     s : Status (unprivileged (left_s r.mstatus) (field_of r.mstatus 8 1))
@@ -235,7 +235,7 @@ vector_fits v = by (nat_lt (v % 4) 2) refl
     by true is = ltb-true (v % 4) 2 is
     by false is = omega (arith, on_four v)
 
-kept_write : (c : Csr) (r : Regs) (v : ℕ) → IsKept r → IsKept ((row_of c).write r v)
+kept_write : (c : Csr) (r : Regs) (v : ℕ) → FitsHart r → FitsHart ((row_of c).write r v)
 kept_write Sstatus r v k = record { aligned = k.aligned; mode_fits = k.mode_fits; mode_real = k.mode_real; mstatus = (merged_status r.mstatus v (status_of_kept r k)).inside; mpp = (merged_status r.mstatus v (status_of_kept r k)).mpp; mtvec = k.mtvec; mepc = k.mepc; medeleg = k.medeleg; mideleg = k.mideleg; mie = k.mie; mip = k.mip; stvec = k.stvec; sepc = k.sepc; satp = k.satp }
 kept_write Sie r v k = record { aligned = k.aligned; mode_fits = k.mode_fits; mode_real = k.mode_real; mstatus = k.mstatus; mpp = k.mpp; mtvec = k.mtvec; mepc = k.mepc; medeleg = k.medeleg; mideleg = k.mideleg; mie = merged_in r.mie r.mideleg v interrupt_mask (lit< tt) (small r.mideleg mideleg_mask (lit< tt) k.mideleg) k.mie (delegated_inside r.mideleg k.mideleg); mip = k.mip; stvec = k.stvec; sepc = k.sepc; satp = k.satp }
 kept_write Stvec r v k = record { aligned = k.aligned; mode_fits = k.mode_fits; mode_real = k.mode_real; mstatus = k.mstatus; mpp = k.mpp; mtvec = k.mtvec; mepc = k.mepc; medeleg = k.medeleg; mideleg = k.mideleg; mie = k.mie; mip = k.mip; stvec = vector_fits v; sepc = k.sepc; satp = k.satp }
@@ -591,7 +591,7 @@ either_mode (suc (suc zero)) h ne = absurd (ne refl)
 either_mode (suc (suc (suc zero))) h ne = refl
 either_mode (suc (suc (suc (suc m)))) h ne = absurd (omega (arith, h))
 
-pub kept_fits : (r : Regs) → IsKept r → fits_hart r ≡ true
+pub kept_fits : (r : Regs) → FitsHart r → fits_hart r ≡ true
 kept_fits r k = λ i.
     ((eq-eqb (r.pc % 4) 0 k.aligned) i)
     && ((either_mode r.mode k.mode_fits k.mode_real) i)

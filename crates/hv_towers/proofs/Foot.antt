@@ -14,7 +14,7 @@ use Rattle.hv_store.specs.Access.{identity, open_at}
 use Rattle.hv_map.specs.Item.{Item}
 use Rattle.hv_map.specs.Compose.{Looked, Named, Stopped, compose, reading, table_of}
 use Rattle.hv_map.specs.Chain.{map_along}
-use Rattle.hv_map.specs.Apart.{opened, opened_if, open_pages, table_pages, table_open, directory_of}
+use Rattle.hv_map.specs.Apart.{open_page, open_page_if, open_pages, table_pages, table_open, directory_of}
 use Rattle.hv_nest.specs.Bare.{alone}
 use Rattle.hv_nest.specs.Routing.{regs_along}
 use Rattle.hv_nest.specs.Watched.{places, item_foot, chain_foot, last_block, own_places, page_foot, standing_places, without, but_lines, foot, are_same, same_status, keeps_foot, lines_of}
@@ -69,12 +69,12 @@ module _ (P : ℕ → Type 0) where
   -- the words that the map of a child is read from
   module _ (A : List ℕ) (j base n : ℕ) (x : Item) (xs : List Item) (laid : LaidAt A j base n x) (zone : (g w : ℕ) → w < 1024 → Zone base (x ∷ xs) g w → P (1024 * g + w)) where
     each_directory : (f : ℕ → List ℕ) → Each P (flat_map f (directory_of (from_base base n) x))
-    each_directory f = subst (λ (v : ℕ). Each P (flat_map f (cond (v == 2) (opened_if (reading (from_base base n) x.table)) []))) (sym laid.version) tt
+    each_directory f = subst (λ (v : ℕ). Each P (flat_map f (cond (v == 2) (open_page_if (reading (from_base base n) x.table)) []))) (sym laid.version) tt
 
     each_table : (i : ℕ) → i < x.pages → Each P (map (λ g. 1024 * g + i % 1024) (table_open (from_base base n) (table_of A (reading (from_base base n)) j x.table x.version i)))
     each_table i h = by (table_of A (reading (from_base base n)) j x.table x.version i) refl
       where
-        found : (u : ℕ) → table_of A (reading (from_base base n)) j x.table x.version i ≡ Named u → (o : Option Way) → reading (from_base base n) u ≡ o → Each P (map (λ g. 1024 * g + i % 1024) (opened_if o))
+        found : (u : ℕ) → table_of A (reading (from_base base n)) j x.table x.version i ≡ Named u → (o : Option Way) → reading (from_base base n) u ≡ o → Each P (map (λ g. 1024 * g + i % 1024) (open_page_if o))
         found u e None p = tt
         found u e (Some (Open g)) p = (zone g (i % 1024) (omega arith) (inr (inr (inl (table_place A j base n x i u g laid.table laid.version h e p)))), tt)
         found u e (Some (Shut l c q w)) p = tt
@@ -121,7 +121,7 @@ module _ (P : ℕ → Type 0) where
       mapped_append (k ∷ ks) ls p q = (p.0, mapped_append ks ls p.1 q)
 
 -- the bare pages of a map of pages in their order
-each_opened : (Q : ℕ → Type 0) (f : ℕ → ℕ) (a n : ℕ) → ((i : ℕ) → Q (f i)) → Each Q (flat_map (λ (s : Slot). opened s.read) (map (λ i. open_at (f i)) (range_with_len a n)))
+each_opened : (Q : ℕ → Type 0) (f : ℕ → ℕ) (a n : ℕ) → ((i : ℕ) → Q (f i)) → Each Q (flat_map (λ (s : Slot). open_page s.read) (map (λ i. open_at (f i)) (range_with_len a n)))
 each_opened Q f a zero h = tt
 each_opened Q f a (suc n) h = (h a, each_opened Q f (a + 1) n h)
 

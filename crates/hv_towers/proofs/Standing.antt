@@ -6,7 +6,7 @@ use Rattle.std.proofs.lemmas.Bool.{or_cases, and_parts, eqb-true, eq-eqb, true�
 use Rattle.hv_word.specs.Storage.{page_count}
 use Rattle.hv_store.specs.declared.access.Slot.{Slot}
 use Rattle.hv_store.specs.Access.{identity, open_at}
-use Rattle.hv_map.specs.Apart.{has, are_distinct, opened_if, open_pages, table_pages, table_open, tables_of, tables_along, blocks_of, standing_on, is_apart}
+use Rattle.hv_map.specs.Apart.{has, are_distinct, open_page_if, open_pages, table_pages, table_open, tables_of, tables_along, blocks_of, standing_on, is_apart}
 use Rattle.hv_map.specs.Compose.{compose, reading, table_of}
 use Rattle.hv_map.specs.Chain.{map_along}
 use Rattle.hv_apart.proofs.Lists.{has-append}
@@ -205,8 +205,8 @@ tables_are S j base n (m ∷ ms) few all =
         let h : 2 + table_pages m + m ≤ n = all.0.size in
         let page : 2 + 1024 * k / 1024 ≡ 2 + k = omega arith in
         let sum : base + (2 + k) ≡ base + 2 + k = omega arith in
-        ap (λ (u : ℕ). opened_if (reading (from_base base n) u)) page
-        ∙ ap (λ (o : Option Slot). opened_if (option_map (λ (s : Slot). s.read) o)) (base_slot base n (2 + k) (omega (arith, h, lt)))
+        ap (λ (u : ℕ). open_page_if (reading (from_base base n) u)) page
+        ∙ ap (λ (o : Option Slot). open_page_if (option_map (λ (s : Slot). s.read) o)) (base_slot base n (2 + k) (omega (arith, h, lt)))
         ∙ ap (λ (x : ℕ). x ∷ []) sum
 
     here : tables_of S (from_base base n) j (item_of base m) ≡ range_with_len (base + 2) (table_pages m)

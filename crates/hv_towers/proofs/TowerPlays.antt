@@ -2,7 +2,7 @@
 use Rattle.std.proofs.Common.{◌≡◌, ℕ, zero, suc, ◌+◌, ◌*◌, ◌<◌, ◌≤◌, inl, inr, true, List, [], ◌∷◌, ◌++◌, length, replicate, Some, refl, ap, ◌∙◌, sym, subst, arith}
 use Rattle.std.proofs.lemmas.List.{length-map, length-replicate}
 use Rattle.hv_word.specs.Storage.{page_count}
-use Rattle.hv_cpu.specs.Regs.{Regs, IsKept, reset_regs}
+use Rattle.hv_cpu.specs.Regs.{Regs, FitsHart, reset_regs}
 use Rattle.hv_store.specs.declared.access.Slot.{Slot}
 use Rattle.hv_store.specs.Access.{identity}
 use Rattle.hv_block.specs.Block.{regs_at}
@@ -32,7 +32,7 @@ use Rattle.hv_towers.proofs.Plays.{Plays, quiet, plays}
 use Rattle.hv_towers.proofs.Sizes.{machines_few}
 use Rattle.hv_towers.proofs.Moments.{Ground, Standing}
 
-kept_reset : IsKept reset_regs
+kept_reset : FitsHart reset_regs
 kept_reset = record {
   aligned = refl;
   mode_fits = omega arith;

@@ -2,6 +2,7 @@
 
 use crate::{bare_run, seen};
 use hv_cpu::reset;
+use hv_limits::PAGES;
 use hv_map::{Path, pin};
 use hv_nest::LineRow;
 use hv_store::Store;
@@ -20,14 +21,14 @@ fn lay(store: &mut Store, from: u32, words: &[u32]) {
 }
 
 // Words 3 of the first two pages that the machine with its block on page 1 sees; none where it isn't there.
-#[tactic(auto, using(hv_apart::proofs::Machines::pinned_own))]
+#[tactic(auto, using(hv_map::proofs::Machines::pinned_own))]
 fn third_words(alloc: Global, store: &Store) -> Result<Option<(u32, u32)>, AllocError> {
     let mut path = Path::new();
     path.push(1);
     let Some(chain) = pin(store, &path) else {
         return Ok(None);
     };
-    if chain.pages(store) > 16384 {
+    if chain.pages(store) > PAGES {
         return Ok(None);
     }
     let own = seen(alloc, store, &chain)?;
@@ -73,7 +74,7 @@ fn a_line_is_raised_after_eleven_steps(rt: HostRuntime) -> Result<(), Fail> {
         bits: 0x80,
     };
     bare_run(&mut store, &mut cpu, &[timer], 14);
-    assert_eq!(rt; (cpu.pc, cpu.x1, cpu.x2, cpu.x6), (0x28, 2, 0x63, 0x80));
+    assert_eq!(rt; (cpu.pc, cpu.x(1), cpu.x(2), cpu.x(6)), (0x28, 2, 0x63, 0x80));
     assert_eq!(rt; (cpu.mstatus, cpu.mtvec, cpu.mepc), (0x1880, 0x24, 0x1C));
     assert_eq!(rt; (cpu.mcause, cpu.mie, cpu.mip), (0x8000_0007, 0x80, 0x80));
     // a change at the last count is made too

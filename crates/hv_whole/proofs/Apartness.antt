@@ -16,7 +16,7 @@ use Rattle.hv_map.specs.Item.{Item}
 use Rattle.hv_map.specs.Compose.{Named, Stopped, look, page_named, table_of, reading, compose}
 use Rattle.hv_map.specs.Chain.{child_held, child_through, child_at, machines, map_along, pin_of}
 use Rattle.hv_limits.specs.Limits.{depth_limit}
-use Rattle.hv_map.specs.Apart.{are_distinct, opened, open_pages, table_pages, table_open, tables_of, directory_of, tables_along, blocks_of, is_apart}
+use Rattle.hv_map.specs.Apart.{are_distinct, open_page, open_pages, table_pages, table_open, tables_of, directory_of, tables_along, blocks_of, is_apart}
 use Rattle.hv_map.specs.Carried.{Opens}
 use Rattle.hv_map.specs.Words.{EachChain, syllables}
 use Rattle.hv_map.proofs.Assoc.{begins_with}
@@ -31,18 +31,18 @@ use Rattle.hv_whole.proofs.Members.{Has, has_left, has_right, has_range, has_eac
 pub has_open : (F : List Slot) (y x : ℕ) → reading F y ≡ Some (Open x) → Has x (open_pages F)
 has_open F y x e =
     let r = reading_slot F y (Open x) e in
-    has_each Slot (λ (s : Slot). opened s.read) F y x r.0 r.1 (rw r.2 (inl refl))
+    has_each Slot (λ (s : Slot). open_page s.read) F y x r.0 r.1 (rw r.2 (inl refl))
 
 pub one_open : (F : List Slot) → are_distinct (open_pages F) ≡ true → IsOneToOne F
 one_open [] d y z x e f = absurd (let p : None ≡ Some (Open x) = e in cc)
 one_open (r ∷ F) d zero zero x e f = refl
 one_open (r ∷ F) d zero (suc z) x e f =
-    let h : Has x (opened r.read) = rw (same_Some r.read (Open x) e) (inl refl) in
-    absurd ((parted (opened r.read) (open_pages F) d).apart x h (has_open F z x f))
+    let h : Has x (open_page r.read) = rw (same_Some r.read (Open x) e) (inl refl) in
+    absurd ((parted (open_page r.read) (open_pages F) d).apart x h (has_open F z x f))
 one_open (r ∷ F) d (suc y) zero x e f =
-    let h : Has x (opened r.read) = rw (same_Some r.read (Open x) f) (inl refl) in
-    absurd ((parted (opened r.read) (open_pages F) d).apart x h (has_open F y x e))
-one_open (r ∷ F) d (suc y) (suc z) x e f = ap suc (one_open F (parted (opened r.read) (open_pages F) d).last y z x e f)
+    let h : Has x (open_page r.read) = rw (same_Some r.read (Open x) f) (inl refl) in
+    absurd ((parted (open_page r.read) (open_pages F) d).apart x h (has_open F y x e))
+one_open (r ∷ F) d (suc y) (suc z) x e f = ap suc (one_open F (parted (open_page r.read) (open_pages F) d).last y z x e f)
 
 -- and so it is where it is told by the slot
 pub reading_at : (F : List Slot) (y x : ℕ) (s : Slot) → slice_get F y ≡ Some s → s.read ≡ Open x → reading F y ≡ Some (Open x)

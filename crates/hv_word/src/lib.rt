@@ -14,6 +14,7 @@ pub enum Lane {
 }
 
 /// The `LEN` bits of `word` from bit `LO` on, as a number.
+#[inline(always)]
 pub fn field<const LO: u32, const LEN: u32>(word: u32) -> u32
     requires some { 1 ≤ LEN }
     requires inside { LO + LEN ≤ 32 }
@@ -33,6 +34,7 @@ pub fn field_set<const LO: u32, const LEN: u32>(word: u32, value: u32) -> u32
 
 /// The low `BITS` bits of `value`, with the highest of them copied into all bits above it.
 #[tactic(auto, using(crate::proofs::Fields::sext_plain, crate::proofs::Fields::sext_below))]
+#[inline(always)]
 pub fn sext<const BITS: u32>(value: u32) -> u32
     requires some { 1 ≤ BITS }
     requires inside { BITS ≤ 32 }
@@ -48,6 +50,7 @@ pub fn sext<const BITS: u32>(value: u32) -> u32
 }
 
 /// The lane of `word`, unsigned.
+#[inline(always)]
 pub fn lane_get(word: u32, lane: Lane) -> u32
     requires { IsLane lane }
     ensures { result ≡ lane_of word lane }
@@ -60,6 +63,7 @@ pub fn lane_get(word: u32, lane: Lane) -> u32
 }
 
 /// `word` with its lane replaced by the low bits of `value`.
+#[inline(always)]
 pub fn lane_put(word: u32, lane: Lane, value: u32) -> u32
     requires { IsLane lane }
     ensures { result ≡ lane_with word lane value }
@@ -73,6 +77,7 @@ pub fn lane_put(word: u32, lane: Lane, value: u32) -> u32
 
 // A number whose lowest `count` bits are ones.
 #[tactic(auto, using(crate::proofs::Fields::ones_low))]
+#[inline(always)]
 fn low_ones(count: u32) -> u32
     requires some { 1 ≤ count }
     requires inside { count ≤ 32 }
@@ -83,6 +88,7 @@ fn low_ones(count: u32) -> u32
 
 // The `count` bits of `word` from bit `low` on.
 #[tactic(auto, using(crate::proofs::Fields::and_ones))]
+#[inline(always)]
 fn bits_at(word: u32, low: u32, count: u32) -> u32
     requires some { 1 ≤ count }
     requires inside { low + count ≤ 32 }
@@ -93,6 +99,7 @@ fn bits_at(word: u32, low: u32, count: u32) -> u32
 
 // `word` with the `count` bits from bit `low` on taken from the low end of `value`.
 #[tactic(auto, using(crate::proofs::Fields::put_bits))]
+#[inline(always)]
 fn with_bits(word: u32, low: u32, count: u32, value: u32) -> u32
     requires some { 1 ≤ count }
     requires inside { low + count ≤ 32 }

@@ -7,7 +7,7 @@ use Rattle.hv_map.specs.declared.chain.ChainItem.{ChainItem}
 use Rattle.hv_nest.specs.Watched.{chain_foot, item_foot}
 use Rattle.hv_apart.specs.Table.{machine_of}
 use Rattle.hv_apart.proofs.Joining.{joined_none, joined_more}
-use Rattle.hv_apart.proofs.Machines.{pinned_fits}
+use Rattle.hv_map.proofs.Machines.{pinned_fits}
 use Rattle.hv_apart.proofs.Growing.{item_there}
 use Rattle.hv_apart.proofs.Feet.{chain_foot-more}
 use Rattle.hv_apart.proofs.foot.put_items.Goals as goal

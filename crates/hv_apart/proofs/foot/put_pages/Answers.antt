@@ -1,7 +1,7 @@
 -- The next page that can be read.
 use Rattle.std.proofs.Common.{ℕ, ◌<◌, List, ◌++◌, length, take, ap, sym, ◌∙◌, arith}
 use Rattle.std.specs.Option.{option_to_list}
-use Rattle.hv_map.specs.Apart.{opened_if}
+use Rattle.hv_map.specs.Apart.{open_page_if}
 use Rattle.hv_map.specs.Chain.{map_along}
 use Rattle.hv_map.specs.Compose.{reading}
 use Rattle.hv_nest.specs.Watched.{page_foot}
@@ -17,5 +17,5 @@ loop-page-preserved c =
     let inside : i < length F = omega arith in
     joined_more _ _ _ (page_foot (take i F)) (places_in 0 1024 (option_to_list c.read_at.result)) _ c.loop-page.invariant c.put_words.ensures
     (page_foot-push F i inside
-    ∙ ap (λ (k : ℕ). page_foot (take i F) ++ places_in 0 1024 (opened_if (reading F k))) (sym c.from.ensures)
+    ∙ ap (λ (k : ℕ). page_foot (take i F) ++ places_in 0 1024 (open_page_if (reading F k))) (sym c.from.ensures)
     ∙ ap (λ (gs : List ℕ). page_foot (take i F) ++ places_in 0 1024 gs) (sym c.read_at.ensures.page))

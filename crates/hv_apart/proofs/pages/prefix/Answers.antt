@@ -1,7 +1,7 @@
 -- The path of the first machines is the first part of the path.
 use Rattle.std.proofs.Common.{IsSome, take, ◌∙◌, refl, subst, sym}
 use Rattle.std.proofs.lemmas.Option.{same_Some}
-use Rattle.hv_apart.proofs.Machines.{pinned_first}
+use Rattle.hv_map.proofs.Machines.{pinned_first}
 use Rattle.hv_apart.proofs.pages.prefix.Goals as goal
 
 pub unwrap-requires : goal.unwrap-requires

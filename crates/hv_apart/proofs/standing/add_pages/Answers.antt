@@ -1,7 +1,7 @@
 -- The next page that can be read.
 use Rattle.std.proofs.Common.{ℕ, ◌<◌, List, ◌++◌, length, take, ap, sym, ◌∙◌, arith}
 use Rattle.std.specs.Option.{option_to_list}
-use Rattle.hv_map.specs.Apart.{open_pages, opened_if}
+use Rattle.hv_map.specs.Apart.{open_pages, open_page_if}
 use Rattle.hv_map.specs.Chain.{map_along}
 use Rattle.hv_map.specs.Compose.{reading}
 use Rattle.hv_apart.proofs.Adding.{added_more}
@@ -15,5 +15,5 @@ loop-page-preserved c =
     let inside : i < length F = omega arith in
     added_more _ _ _ (open_pages (take i F)) (option_to_list c.read_at.result) _ c.loop-page.invariant c.add_found.ensures
     (pages-push F i inside
-    ∙ ap (λ (k : ℕ). open_pages (take i F) ++ opened_if (reading F k)) (sym c.from.ensures)
+    ∙ ap (λ (k : ℕ). open_pages (take i F) ++ open_page_if (reading F k)) (sym c.from.ensures)
     ∙ ap (λ (ys : List ℕ). open_pages (take i F) ++ ys) (sym c.read_at.ensures.page))

@@ -7,7 +7,7 @@ use Rattle.hv_map.specs.Chain.{map_along}
 use Rattle.hv_map.specs.declared.chain.ChainItem.{ChainItem}
 use Rattle.hv_apart.specs.Table.{machine_of}
 use Rattle.hv_apart.proofs.Adding.{added_none, added_more}
-use Rattle.hv_apart.proofs.Machines.{pinned_fits}
+use Rattle.hv_map.proofs.Machines.{pinned_fits}
 use Rattle.hv_apart.proofs.Growing.{item_there, tables_along-more}
 use Rattle.hv_apart.proofs.standing.add_tables.Goals as goal
 

@@ -1,5 +1,5 @@
 use Rattle.std.proofs.Common.{sym}
-use Rattle.hv_apart.proofs.Machines.{pinned_own}
+use Rattle.hv_map.proofs.Machines.{pinned_own}
 use Rattle.hv_debug.proofs.counter.has_counter.Goals as goal
 
 pub last_block-requires : goal.last_block-requires

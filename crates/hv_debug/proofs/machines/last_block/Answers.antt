@@ -1,7 +1,7 @@
 use Rattle.std.proofs.Common.{◌-◌, ◌<◌, subst, arith}
 use Rattle.hv_word.specs.Storage.{page_count}
 use Rattle.hv_map.specs.declared.chain.ChainItem.{ChainItem}
-use Rattle.hv_apart.proofs.Machines.{pinned_fits}
+use Rattle.hv_map.proofs.Machines.{pinned_fits}
 use Rattle.hv_apart.proofs.Growing.{item_there}
 use Rattle.hv_run.proofs.Blocks.{item_last}
 use Rattle.hv_debug.proofs.machines.last_block.Goals as goal

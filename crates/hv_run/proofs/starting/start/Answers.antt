@@ -1,5 +1,5 @@
 use Rattle.std.proofs.Common.{◌≡◌, List, ℕ, Some, ap, sym, ◌∙◌}
-use Rattle.hv_apart.proofs.Machines.{pinned_own}
+use Rattle.hv_map.proofs.Machines.{pinned_own}
 use Rattle.hv_map.specs.Chain.{pin_of}
 use Rattle.hv_run.proofs.starting.start.Goals as goal
 

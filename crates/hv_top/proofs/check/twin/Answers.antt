@@ -1,5 +1,5 @@
 use Rattle.std.proofs.Common.{◌≡◌, Some, sym, ap, ◌∙◌}
-use Rattle.hv_apart.proofs.Machines.{pinned_own}
+use Rattle.hv_map.proofs.Machines.{pinned_own}
 use Rattle.hv_map.specs.Chain.{pin_of}
 use Rattle.hv_run.specs.Record.{WatchTold}
 use Rattle.hv_top.proofs.Twins.{next_there}

@@ -30,18 +30,18 @@ loop-page-preserved c =
     let S = c.args.store.now in
     let F = map_along S c.args.chain.now in
     let i = c.loop-page.page in
-    let at = c.slot_of.ensures.slot in
-    elim c.match-slot_of.branch [
+    let at = c.page_slot.ensures.slot in
+    elim c.match-page_slot.branch [
       | in-Open w ↦ record {
         pages =
             w.copy-is
             ∙ w.copy_page.ensures
             ∙ ap (λ copy. sets copy (1024 * i) (words_of S 1024 (Open w.in-Open.host))) c.loop-page.invariant.pages
-            ∙ open_more S F i w.in-Open.host c.slot_of.result at w.in-Open.is;
+            ∙ open_more S F i w.in-Open.host c.page_slot.result at w.in-Open.is;
         len = ap length (w.copy-is ∙ w.copy_page.ensures) ∙ length-sets c.loop-page.copy (1024 * i) (words_of S 1024 (Open w.in-Open.host)) ∙ c.loop-page.invariant.len;
       }
       | in_default w ↦ record {
-        pages = w.copy-is ∙ c.loop-page.invariant.pages ∙ shut_more S F i c.slot_of.result at w.in_default.not-Open;
+        pages = w.copy-is ∙ c.loop-page.invariant.pages ∙ shut_more S F i c.page_slot.result at w.in_default.not-Open;
         len = ap length w.copy-is ∙ c.loop-page.invariant.len;
       }
     ]

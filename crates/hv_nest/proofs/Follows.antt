@@ -7,6 +7,7 @@ use Rattle.hv_store.specs.declared.access.Refusal.{Refusal}
 use Rattle.hv_store.specs.declared.access.Slot.{Slot}
 use Rattle.hv_store.specs.declared.access.Way.{Way}
 use Rattle.hv_store.specs.declared.access.Way.TheVariants.{Open, Shut}
+use Rattle.hv_store.specs.Access.{identity}
 use Rattle.hv_store.proofs.Identity.{length-identity}
 use Rattle.hv_block.specs.declared.Block.{Block}
 use Rattle.hv_block.specs.Block.{regs_at, is_block, held_at}
@@ -133,9 +134,13 @@ pub beyond_new : (S : List ℕ) (r : Regs) → beyond S [] r ≡ running_path S 
 unfolding beyond map_along along
 beyond_new S r = refl
 
+-- the bare machine runs itself where it has no next
+pub runs_none : (S : List ℕ) (r : Regs) → r.next ≡ 0 → [] ≡ running_path S r
+runs_none S r e = sym (follows_none depth_limit S (identity (page_count S)) 0 r e)
+
 -- the map of the bare machine
 pub length-map_new : (S : List ℕ) → length (map_along S []) ≡ page_count S
 unfolding map_along along
 length-map_new S = length-identity (page_count S)
 
-pub ruleset following = (beyond_none, beyond_deepest, beyond_malformed, beyond_refused, beyond_child, beyond_next, beyond_new, chain_longer, length-map_new)
+pub ruleset following = (beyond_none, beyond_deepest, beyond_malformed, beyond_refused, beyond_child, beyond_next, beyond_new, runs_none, chain_longer, length-map_new)

@@ -1,3 +1,4 @@
+pub mod AtHart
 pub mod Causes
 pub mod Counts
 pub mod Follows

@@ -5,6 +5,7 @@ use Rattle.std.proofs.lemmas.List.{length-append}
 use Rattle.std.proofs.lemmas.Option.{same_Some}
 use Rattle.hv_word.specs.Storage.{page_count}
 use Rattle.hv_cpu.specs.Regs.{Regs}
+use Rattle.hv_csr.specs.Traps.{take_trap_of}
 use Rattle.hv_csr.specs.Interrupts.{by_urgency, first_in, has_line, pending_of, among, or_else, is_open_m, raised_m, is_open_s, raised_s}
 use Rattle.hv_store.specs.declared.access.Refusal.{Refusal}
 use Rattle.hv_store.specs.declared.access.Slot.{Slot}
@@ -23,10 +24,11 @@ use Rattle.hv_map.specs.declared.found.Found.{Found}
 use Rattle.hv_map.specs.declared.found.Found.TheVariants.{Child, Malformed, Refused}
 use Rattle.hv_map.specs.Found.{found_in, found_through, found_at, found_on, item_of}
 use Rattle.hv_map.proofs.Slots.{along-snoc, length-composed}
+use Rattle.hv_nest.proofs.Told.{differences_itself}
 use Rattle.hv_nest.specs.declared.outcome.StepKind.{StepKind}
 use Rattle.hv_nest.specs.declared.outcome.StepKind.TheVariants.{Worked as WorkedKind, Recall, Fault}
 use Rattle.hv_nest.specs.Kinds.{step_as}
-use Rattle.hv_nest.specs.Step.{Stepped, Worked, Recalled, Faulted, Barred, Machine, interrupted, worked, told, put_back, malformed, too_deep, child_step, child_through, child_at, descended, resumed, step_on, step_of, host_step_of}
+use Rattle.hv_nest.specs.Step.{Stepped, Worked, Recalled, Faulted, Barred, Machine, idle, interrupted, worked, told, put_back, malformed, too_deep, child_step, child_through, child_at, descended, resumed, step_on, step_of, host_step_of}
 
 -- an interrupt has a number below 16
 all_small : List ℕ → Type 0
@@ -199,4 +201,15 @@ pub host_pages : (S : List ℕ) (xs : List Item) → xs ≡ [] → length (map_a
 unfolding map_along along
 host_pages S xs e = ap (λ (ys : List Item). length (map_along S ys)) e ∙ length-identity (page_count S)
 
-pub ruleset hosting = (host_is, host_pages)
+-- the bare machine, where it runs no other
+pub host_acts : (S : List ℕ) (h : ℕ) (r : Regs) → None ≡ pending_of r → r.next ≡ 0 → host_step_of S h r ≡ worked (act_of S (identity (page_count S)) h r)
+unfolding host_step_of
+host_acts S h r e z = row_acts depth_limit S (identity (page_count S)) 0 h r e z
+
+pub host_traps : (S : List ℕ) (h : ℕ) (r : Regs) (k : ℕ) → Some k ≡ pending_of r → r.next ≡ 0 → host_step_of S h r ≡ Worked S (take_trap_of r k true 0)
+unfolding host_step_of
+host_traps S h r k e z =
+    row_pending depth_limit S (identity (page_count S)) 0 h r k e
+    ∙ ap (λ (b : Bool). cond b (Worked S (take_trap_of r k true 0)) (Recalled 0 S (idle r))) (eq-eqb r.next 0 z)
+
+pub ruleset hosting = (host_is, host_pages, host_acts, host_traps, pending_small, differences_itself)

@@ -11,6 +11,7 @@ use Rattle.std.proofs.lemmas.Bool.{eq-eqb, ne_eqb, eqb-true, leb-true, leb-false
 use Rattle.hv_nest.specs.declared.changed.ChangedRow.{ChangedRow}
 use Rattle.hv_nest.specs.declared.notes.Note.{Note}
 use Rattle.hv_nest.specs.Changes.{difference_at, differences_to}
+use Rattle.hv_nest.specs.Rows.{no_row}
 use Rattle.hv_nest.specs.Notes.{undone, is_noted, SameBetween, IsNextChange, IsLeast, noted_from}
 use Rattle.hv_nest.proofs.Undone.{length-undone, undone_at}
 
@@ -211,6 +212,17 @@ pub differences_none : (S T : List ℕ) → [] ≡ differences_to S T 0
 unfolding differences_to
 differences_none S T = refl
 
+-- no word is another than itself
+pub differences_itself : (S : List ℕ) (n : ℕ) → [] ≡ differences_to S S n
+unfolding differences_to
+differences_itself S n = sym (none_differ S S 0 n (λ a from lt. refl))
+
+-- where nothing is noted nothing changed
+pub differences_unnoted : (T : List ℕ) (notes : List Note) (n : ℕ) → notes ≡ [] → [] ≡ differences_to (undone T notes) T n
+unfolding undone
+differences_unnoted T notes n e =
+    differences_itself T n ∙ sym (ap (λ (ns : List Note). differences_to (undone T ns) T n) e)
+
 -- the rows behind those that are told
 drop_row : (z : ChangedRow) (rows : List ChangedRow) (n k : ℕ) (row : ChangedRow) → n < length rows → drop n rows ≡ replicate (suc k) z → drop (n + 1) (set rows n row) ≡ replicate k z
 drop_row z rows n k row lt e =
@@ -219,10 +231,10 @@ drop_row z rows n k row lt e =
     ∙ ap (λ (m : ℕ). drop m rows) (add-one n)
     ∙ ap (drop 1) (sym (drop-cons rows n z lt) ∙ e)
 
-pub rest_row : (rows : List ChangedRow) (n : ℕ) (row : ChangedRow) → n < 8 → length rows ≡ 8 → drop n rows ≡ replicate (8 - n) (record { at = 0; value = 0 }) → drop (n + 1) (set rows n row) ≡ replicate (8 - (n + 1)) (record { at = 0; value = 0 })
+pub rest_row : (rows : List ChangedRow) (n : ℕ) (row : ChangedRow) → n < 8 → length rows ≡ 8 → drop n rows ≡ replicate (8 - n) no_row → drop (n + 1) (set rows n row) ≡ replicate (8 - (n + 1)) no_row
 rest_row rows n row h long e =
     let lt : n < length rows = omega arith in
     let s : 8 - n ≡ suc (8 - (n + 1)) = omega arith in
-    drop_row (record { at = 0; value = 0 }) rows n (8 - (n + 1)) row lt (e ∙ ap (λ (k : ℕ). replicate k (record { at = 0; value = 0 })) s)
+    drop_row no_row rows n (8 - (n + 1)) row lt (e ∙ ap (λ (k : ℕ). replicate k no_row) s)
 
-pub ruleset telling = (past_same, least_none, least_skip, least_take, least_some, least_noted, least_same, differences_none)
+pub ruleset telling = (past_same, least_none, least_skip, least_take, least_some, least_noted, least_same, differences_none, differences_unnoted)

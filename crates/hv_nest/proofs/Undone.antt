@@ -21,6 +21,10 @@ unfolding undone
 length-undone T [] = refl
 length-undone T (n ∷ notes) = length-set (undone T notes) n.at n.before ∙ length-undone T notes
 
+-- a storage has as many words as the one that is put back
+pub length_noted : (S T : List ℕ) (notes : List Note) → undone T notes ≡ S → length T ≡ length S
+length_noted S T notes origin = sym (length-undone T notes) ∙ ap length origin
+
 -- the last note is put back first
 pub undone-snoc : (T : List ℕ) (notes : List Note) (n : Note) → undone T (notes ++ n ∷ []) ≡ undone (set T n.at n.before) notes
 unfolding undone

@@ -1,5 +1,6 @@
--- What a machine asks of its storage while it executes one instruction: the word of a page, and the access that it is for.
--- The asks go in the order of the instruction, as far as it comes: each is made only where those before it were answered.
+-- What a machine asks of its storage while it executes one instruction: the word of a page, and the access that it is
+-- for. The asks go in the order of the instruction, as far as it comes: each is made only where those before it were
+-- answered.
 use Rattle.std.specs.Prelude.{ℕ, ◌/◌, ◌%◌, ◌==◌, ◌&&◌, Bool, not, is_some, if◌then◌else◌, List, [], ◌∷◌, ◌++◌, Option, Some, None, Result, Ok, Err, slice_get}
 use Rattle.hv_word.specs.Words.{field_of}
 use Rattle.hv_cpu.specs.Regs.{Regs}
@@ -55,7 +56,8 @@ address_asks S F r address a = walk_asks S F r address a ++ place_ask a (walk_of
 -- word 72 of the page of the machine that is to run, where that is named as it must be
 abbrev pub enter_ask : ℕ → List Ask
 enter_ask value =
-    if value % 4096 == 0 then (if value / 4096 == 0 then [] else record { page = value / 4096; word = 72; access = Write } ∷ [])
+    if value % 4096 == 0
+    then (if value / 4096 == 0 then [] else record { page = value / 4096; word = 72; access = Write } ∷ [])
     else []
 
 -- what an instruction asks for once it is fetched
@@ -80,8 +82,8 @@ found_asks S F hart r (Found page offset) = fetched_asks S F hart r (get S F pag
 found_asks S F hart r (TrapWith cause tval) = []
 found_asks S F hart r (RefusedBy e) = []
 
--- All of them: the entries of the walk of the program counter, the instruction's word, the entries of the walk of a load or
--- store, and its word, or word 72 of the page of a machine that is to run.
+-- All of them: the entries of the walk of the program counter, the instruction's word, the entries of the walk of a
+-- load or store, and its word, or word 72 of the page of a machine that is to run.
 unfoldable pub asks : List ℕ → List Slot → ℕ → Regs → List Ask
 asks S F hart r = address_asks S F r r.pc Fetch ++ found_asks S F hart r (walk_of S F r r.pc Fetch)
 

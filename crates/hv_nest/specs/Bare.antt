@@ -1,13 +1,13 @@
--- A bare machine that runs alone: one hart, number 0, and changes of its interrupt lines that are told by how many steps it
--- has made before each.
+-- A bare machine that runs alone: one hart, number 0, and changes of its interrupt lines that are told by how many
+-- steps it has made before each.
 use Rattle.std.specs.Prelude.{ℕ, ◌-◌, nat_le, if◌then◌else◌, List, [], ◌∷◌, ◌++◌, replicate}
 use Rattle.hv_cpu.specs.Regs.{Regs}
 use Rattle.hv_nest.specs.State.{State}
 use Rattle.hv_nest.specs.Move.{Move, StepOf, LinesOf, last_of}
 use Rattle.hv_nest.specs.Watched.{LineChange}
 
--- What happens to it from step i on until it has made m steps: each change is made when its count is reached, in their order,
--- and those with the count m are made too. The counts don't fall.
+-- What happens to it from step i on until it has made m steps: each change is made when its count is reached, in their
+-- order, and those with the count m are made too. The counts don't fall.
 unfoldable pub bare_moves : ℕ → List LineChange → ℕ → List Move
 bare_moves i [] m = replicate (m - i) (StepOf 0)
 bare_moves i (l ∷ ls) m =

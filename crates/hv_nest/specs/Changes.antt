@@ -1,8 +1,7 @@
 -- Which words of a storage differ from those of another.
-use Rattle.std.specs.Prelude.{◌≡◌, ℕ, ◌-◌, ◌≤◌, ◌==◌, if◌then◌else◌, List, [], ◌∷◌, length, take, drop, replicate, slice_index}
+use Rattle.std.specs.Prelude.{ℕ, ◌==◌, if◌then◌else◌, List, [], ◌∷◌, length, slice_index}
 use Rattle.std.specs.List.{range_with_len, flat_map}
 use Rattle.hv_nest.specs.declared.changed.ChangedRow.{ChangedRow}
-use Rattle.hv_nest.specs.declared.changed.Changed.{Changed}
 
 -- each place where T differs from S, with the word of T, by rising place
 abbrev pub difference_at : List ℕ → List ℕ → ℕ → List ChangedRow
@@ -12,11 +11,6 @@ difference_at S T a =
 unfoldable pub differences_to : List ℕ → List ℕ → ℕ → List ChangedRow
 differences_to S T n = flat_map (difference_at S T) (range_with_len 0 n)
 
+-- all of them
 abbrev pub differences : List ℕ → List ℕ → List ChangedRow
 differences S T = differences_to S T (length S)
-
--- the rows tell exactly these, and are zero behind them
-pub record TellsChanges (S T : List ℕ) (c : Changed) : Type 0 where
-  pub fits : c.len ≤ 8
-  pub told : take c.len c.rows ≡ differences S T
-  pub rest : drop c.len c.rows ≡ replicate (8 - c.len) (record { at = 0; value = 0 })

@@ -18,12 +18,13 @@ is_kept_in g a = (a / 1024 == g) && is_kept_word (a % 1024)
 abbrev pub is_kept_of : List Item → ℕ → Bool
 is_kept_of items a = list_any (λ (x : Item). is_kept_in x.block a) items
 
--- A word of T that isn't that of S is in a bare page which a machine with the map F may write, or is a word of the block of
--- one of the machines that holds its registers or its last fault.
+-- A word of T that isn't that of S is in a bare page which a machine with the map F may write, or is a word of the
+-- block of one of the machines that holds its registers or its last fault.
 abbrev pub IsFramed : List ℕ → List Slot → List Item → List ℕ → Type 0
 IsFramed S F items T =
     (a : ℕ) → slice_index S a ≢ slice_index T a → (opens_for_writing F (a / 1024) || is_kept_of items a) ≡ true
 
--- The same where the machines are those on a path from the bare machine, and the map is that of the last. There are such.
+-- The same where the machines are those on a path from the bare machine, and the map is that of the last. There are
+-- such.
 unfoldable pub IsFramedBy : List ℕ → List ℕ → List ℕ → Type 0
 IsFramedBy S path T = (items : List Item) × (pin_of S path ≡ Some items) × IsFramed S (map_along S items) items T

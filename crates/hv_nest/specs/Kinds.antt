@@ -12,9 +12,9 @@ step_as (Recall l) S r = Recalled l S r
 step_as (Fault l c address a) S r = Faulted l c address a S r
 
 -- a kind or a refusal that is passed on, with the storage and the registers that are left
-abbrev pub stepped : Result StepKind Refusal → List ℕ → Regs → Stepped
-stepped (Ok kind) S r = step_as kind S r
-stepped (Err e) S r = Barred e
+abbrev pub step_result : Result StepKind Refusal → List ℕ → Regs → Stepped
+step_result (Ok kind) S r = step_as kind S r
+step_result (Err e) S r = Barred e
 
 -- the machine that is to run next, if any, is on one of n pages
 abbrev pub NextBelow : ℕ → Regs → Type 0

@@ -5,9 +5,11 @@ pub mod Changes
 pub mod Frame
 pub mod Kinds
 pub mod Move
+pub mod Noted
 pub mod Notes
 pub mod Received
 pub mod Routing
+pub mod Rows
 pub mod Simulation
 pub mod State
 pub mod Step

@@ -1,5 +1,5 @@
--- What a step changes that was refused, or after which a machine get control back for an interrupt: nothing but the next of
--- the machine that received it, and of the words that tell of a fault those of one block.
+-- What a step changes that was refused, or after which a machine get control back for an interrupt: nothing but the
+-- next of the machine that received it, and of the words that tell of a fault those of one block.
 use Rattle.std.specs.Prelude.{◌≡◌, ℕ, zero, suc, ◌<◌, ◌≤◌, ◌⊎◌, IsSomeAnd, List, length, take, Some, slice_get}
 use Rattle.hv_word.specs.Storage.{page_count, word_at}
 use Rattle.hv_cpu.specs.Regs.{Regs}
@@ -32,7 +32,8 @@ hart_after zero r = idle r
 hart_after (suc l) r = r
 
 -- the machine at level l, one of those on the path, get control back; beside its next the words that P names may change
-pub record GetsBack (S : List ℕ) (items : List Item) (r : Regs) (l : ℕ) (P : ℕ → ℕ → Type 0) (T : List ℕ) (q : Regs) : Type 0 where
+pub record GetsBack (S : List ℕ) (items : List Item) (r : Regs) (l : ℕ) (P : ℕ → ℕ → Type 0) (T : List ℕ) (q : Regs)
+    : Type 0 where
   pub there : l ≤ length items
   pub changes : ChangesOnly (λ g w. IsNextOf items l g w ⊎ P g w) S T
   pub hart : q ≡ hart_after l r
@@ -49,8 +50,8 @@ pub record Tells (T : List ℕ) (b cause address : ℕ) (a : Access) : Type 0 wh
   pub address_word : word_at T b 73 ≡ address
   pub kind_word : word_at T b 74 ≡ access_word a
 
--- The step of a hart with the registers r, over the storage S, where the items are the machines on its running path. A fault is
--- told in the block of the receiver's child. No refusal passes the bare machine.
+-- The step of a hart with the registers r, over the storage S, where the items are the machines on its running path. A
+-- fault is told in the block of the receiver's child. No refusal passes the bare machine.
 abbrev pub IsReceived : List ℕ → List Item → Regs → Stepped → Type 0
 IsReceived S items r (Worked T q) = Unit {0}
 IsReceived S items r (Recalled l T q) = GetsBack S items r l (λ g w. ⊥) T q

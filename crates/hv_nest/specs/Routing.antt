@@ -71,9 +71,11 @@ IsMapFault fault = IsSomeAnd fault (λ e. IsTrue (is_map_cause e.cause))
 
 -- what the trail says of an ask, found from the inside out
 abbrev pub refusal_on_trail : List ℕ → List ℕ → Ask → Option Refusal
-refusal_on_trail S path q = option_and_then (λ way. refusal_through way q.word q.access) (trail_of S path q.page q.access)
+refusal_on_trail S path q =
+    option_and_then (λ way. refusal_through way q.word q.access) (trail_of S path q.page q.access)
 
--- The fault of a step whose running path is given, with the map F, the hart and the registers c of the machine at its end.
+-- The fault of a step whose running path is given, with the map F, the hart and the registers c of the machine at its
+-- end.
 pub record IsRouted (S path : List ℕ) (F : List Slot) (hart : ℕ) (c : Regs) (fault : Option Refusal) : Type 0 where
   -- the bare machine is told of a machine that is too deep to run another
   pub deep : IsFault fault 5 0 ↔ ((length path ≡ depth_limit) × (c.next ≢ 0))
@@ -87,13 +89,15 @@ pub record IsRouted (S path : List ℕ) (F : List Slot) (hart : ℕ) (c : Regs) 
   -- there is no other fault
   pub whole : IfSome fault (λ e. IsFault fault 5 0 ⊎ (IsFault fault 6 (length path) ⊎ IsMapFault fault))
 
--- Routing: the machines on the running path are all there; where none of them has a pending interrupt a fault is routed, and
--- where one has, there is none. (Each machine keeps its next below the number of its pages.)
+-- Routing: the machines on the running path are all there; where none of them has a pending interrupt a fault is
+-- routed, and where one has, there is none. (Each machine keeps its next below the number of its pages.)
 abbrev pub RoutingLaw : Type 0
 RoutingLaw =
     (S : List ℕ) (hart : ℕ) (r : Regs)
     → r.next < page_count S
     → (items : List Item)
     × (pin_of S (running_path S r) ≡ Some items)
-    × (IsTrue (is_calm S items r) → IsRouted S (running_path S r) (map_along S items) (hart_along items hart) (regs_along S items r) (fault_of (host_step_of S hart r)))
+    × (IsTrue (is_calm S items r)
+      → IsRouted S (running_path S r) (map_along S items) (hart_along items hart) (regs_along S items r)
+        (fault_of (host_step_of S hart r)))
     × (IsFalse (is_calm S items r) → fault_of (host_step_of S hart r) ≡ None)

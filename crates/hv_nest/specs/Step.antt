@@ -1,6 +1,6 @@
--- One step of a machine at level j, with the machines inside it. The registers name by `next` the page of the child that the
--- machine runs, 0 for none; then the child makes the step. A machine's map is the list of its slots, and is compose anew for
--- each child; the child's registers are read from its block before the step and put back after it.
+-- One step of a machine at level j, with the machines inside it. The registers name by `next` the page of the child
+-- that the machine runs, 0 for none; then the child makes the step. A machine's map is the list of its slots, and is
+-- compose anew for each child; the child's registers are read from its block before the step and put back after it.
 use Rattle.std.specs.Prelude.{ℕ, zero, suc, ◌+◌, ◌*◌, ◌==◌, true, if◌then◌else◌, List, Option, Some, None, slice_get}
 use Rattle.hv_word.specs.Storage.{page_count}
 use Rattle.hv_cpu.specs.Regs.{Regs}
@@ -45,11 +45,12 @@ abbrev pub worked : Acted → Stepped
 worked (Done S r) = Worked S r
 worked (Refused e) = Barred e
 
--- A refusal for the machine at level j, whose child's block is in bare page g, is told in that block, and the machine gets
--- control back; one for a machine further out is passed on.
+-- A refusal for the machine at level j, whose child's block is in bare page g, is told in that block, and the machine
+-- gets control back; one for a machine further out is passed on.
 abbrev pub told : List ℕ → ℕ → Regs → ℕ → Refusal → Stepped
 told S j r g e =
-    if e.level == j then Faulted j e.cause e.address e.access (with_fault S g e.cause e.address (access_word e.access)) (idle r)
+    if e.level == j
+    then Faulted j e.cause e.address e.access (with_fault S g e.cause e.address (access_word e.access)) (idle r)
     else Barred e
 
 -- the child's step, with its registers put back into its block; the parent's registers stay

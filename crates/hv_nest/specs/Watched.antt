@@ -1,5 +1,5 @@
--- A watch names a hart and a machine by its path. What counts for it, and what may not be changed by others, is fixed by the
--- state at the start and by the moves.
+-- A watch names a hart and a machine by its path. What counts for it, and what may not be changed by others, is fixed
+-- by the state at the start and by the moves.
 use Rattle.std.specs.Prelude.{ℕ, ◌+◌, ◌*◌, ◌%◌, Bool, true, false, not, ◌&&◌, ◌==◌, nat_lt, if◌then◌else◌, List, [], ◌∷◌, ◌++◌, map, length, Option, Some, None, slice_get, slice_index}
 use Rattle.std.specs.List.{range_with_len, flat_map}
 use Rattle.hv_word.specs.Storage.{page_count, word_at}
@@ -40,8 +40,8 @@ is_counted h p st (LinesOf hart mask) = false
 abbrev pub places : ℕ → List ℕ → List ℕ
 places g ks = map (λ k. 1024 * g + k) ks
 
--- The places of the words that a child's map is read from, besides its parent's map F, at level j: pages, table and version
--- in its block, the directory words and the table words of its pages that its parent can read.
+-- The places of the words that a child's map is read from, besides its parent's map F, at level j: pages, table and
+-- version in its block, the directory words and the table words of its pages that its parent can read.
 abbrev pub item_foot : List ℕ → List Slot → ℕ → Item → List ℕ
 item_foot S F j x =
     places x.block (65 ∷ 66 ∷ 67 ∷ [])
@@ -82,7 +82,8 @@ but_lines None places = places
 but_lines (Some g) places = without (1024 * g + 42) places
 
 -- The foot of the machine at the end of the items, in the storage S at the start: the places of the words that no other
--- machine may change. Word 42 of its block belongs to it too, without the lines, also where the machine sees its own block.
+-- machine may change. Word 42 of its block belongs to it too, without the lines, also where the machine sees its own
+-- block.
 unfoldable pub foot : List ℕ → List Item → List ℕ
 foot S items = but_lines (last_block items) (standing_places S items)
 
@@ -99,7 +100,8 @@ same_status (Some g) S T = unlined (word_at S g 42) == unlined (word_at T g 42)
 abbrev pub keeps_foot : List ℕ → List Item → List ℕ → List ℕ → Bool
 keeps_foot ft items S T = are_same ft S T && same_status (last_block items) S T
 
--- The interrupt lines of a watched machine: in word 42 of the bare page where its block stood at the start, or in its hart.
+-- The interrupt lines of a watched machine: in word 42 of the bare page where its block stood at the start, or in its
+-- hart.
 abbrev pub lines_at : Option Regs → ℕ
 lines_at None = 0
 lines_at (Some r) = lines r.mip

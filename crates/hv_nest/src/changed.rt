@@ -1,5 +1,9 @@
 //! Which bare words a step changed.
 
+ghost use Rattle.std.specs.Prelude.{◌≡◌, []};
+
+use std::marker::Model;
+
 /// A bare word, counted from 0, with its new value.
 #[derive(Clone, Copy, Debug, PartialEq, Eq)]
 pub struct ChangedRow {
@@ -7,9 +11,45 @@ pub struct ChangedRow {
     pub value: u32,
 }
 
-/// The bare words whose value a step changed, by rising place: the first `len` rows. The others are zero.
+/// The bare words whose value a step changed, by rising place: the first `len` rows, at most 8. The others are zero.
 #[derive(Clone, Copy, Debug)]
 pub struct Changed {
     pub len: u32,
     pub rows: [ChangedRow; 8],
+}
+
+impl Model for Changed {
+    ghost use Rattle.std.specs.Prelude.{◌≡◌, ◌≤◌, ◌-◌, List, length, take, drop, replicate};
+    ghost use Rattle.hv_nest.specs.declared.changed.ChangedRow.{ChangedRow};
+
+    ghost Value = { List ChangedRow };
+
+    ghost use Rattle.hv_nest.specs.Rows.{no_row, filled_up, filled_back};
+
+    ghost view = { λ c. take c.len c.rows };
+
+    ghost invariant = { λ c. (c.len ≤ 8) × (length c.rows ≡ 8) × (drop c.len c.rows ≡ replicate (8 - c.len) no_row) };
+
+    ghost inverse = { filled_up };
+
+    ghost inverse_ok = { λ c h. filled_back c h.0 h.1 h.2 };
+}
+
+impl Changed {
+    /// No word.
+    pub fn none() -> Changed
+        ensures { result ≡ [] }
+    {
+        Changed {
+            len: 0,
+            rows: [ChangedRow { at: 0, value: 0 }; 8],
+        }
+    }
+
+    /// The rows of the words that changed.
+    pub fn as_slice(&self) -> &[ChangedRow]
+        ensures { result.now ≡ self.now }
+    {
+        &self.rows[..self.len as usize]
+    }
 }

@@ -1,11 +1,20 @@
 //! The harts of the bare machine.
 
-ghost use Rattle.std.specs.Prelude.{◌≡◌, ◌<◌, ◌≤◌, Some, length, replicate, slice_get, slice_set};
+ghost use Rattle.std.specs.Prelude.{◌≡◌, ◌<◌, ◌≤◌, All, IfSome, Some, bit_and, length, replicate, slice_get, slice_set};
+ghost use Rattle.hv_word.specs.Storage.{page_count};
+ghost use Rattle.hv_cpu.specs.Lines.{lined_of};
 ghost use Rattle.hv_cpu.specs.Regs.{reset_regs};
-ghost use Rattle.hv_limits.specs.Limits.{harts_limit};
+ghost use Rattle.hv_limits.specs.Limits.{harts_limit, lines_mask};
+ghost use Rattle.hv_nest.specs.Changes.{differences};
+ghost use Rattle.hv_nest.specs.Frame.{IsFramedBy};
+ghost use Rattle.hv_nest.specs.Kinds.{NextBelow};
+ghost use Rattle.hv_nest.specs.Move.{moved_of, running_of};
 
+use crate::outcome::Outcome;
+use crate::step::host_step;
 use hv_cpu::{Cpu, reset};
 use hv_limits::HARTS;
+use hv_store::Store;
 use std::marker::Model;
 
 /// The registers of one to `HARTS` harts.
@@ -57,11 +66,45 @@ impl Harts {
         self.cpus[hart as usize]
     }
 
+    // The registers of a hart where they are.
+    #[inline(always)]
+    pub(crate) fn at(&self, hart: u32) -> &Cpu
+        requires { hart < length self.now }
+        ensures { slice_get self.now hart ≡ Some result.now }
+    {
+        &self.cpus[hart as usize]
+    }
+
     /// Replaces the registers of a hart.
     pub fn put(&mut self, hart: u32, cpu: &Cpu)
         requires { hart < length self.old }
         ensures { self.new ≡ slice_set self.old hart cpu.now }
     {
         self.cpus[hart as usize] = *cpu;
+    }
+
+    /// Sets the lines from outside of a hart to those of `mask`, which has no other bits.
+    pub(crate) fn set_lines(&mut self, hart: u32, mask: u32)
+        requires hart { hart < length self.old }
+        requires mask { bit_and mask lines_mask ≡ mask }
+        ensures { IfSome (slice_get self.old hart) (λ r. self.new ≡ slice_set self.old hart (lined_of r mask)) }
+    {
+        self.cpus[hart as usize].set_lines(mask);
+    }
+
+    /// One step of a hart. The next of each, if it has one, is a page of the storage.
+    #[inline(always)]
+    pub(crate) fn step(&mut self, store: &mut Store, hart: u32) -> Outcome
+        requires hart { hart < length self.old }
+        requires next { All (NextBelow (page_count store.old)) self.old }
+        ensures moves { record { kind = result.kind; state = record { storage = store.new; harts = self.new } }
+            ≡ moved_of (record { storage = store.old; harts = self.old }) hart }
+        ensures changed { result.changed ≡ differences store.old store.new }
+        ensures frame { IsFramedBy store.old (running_of (record { storage = store.old; harts = self.old }) hart) store.new }
+        ensures next { All (NextBelow (page_count store.old)) self.new }
+        ensures count { length self.new ≡ length self.old }
+        ensures len { length store.new ≡ length store.old }
+    {
+        host_step(store, &mut self.cpus[hart as usize], hart)
     }
 }

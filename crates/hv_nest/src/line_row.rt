@@ -3,7 +3,7 @@
 use std::marker::Model;
 
 /// A change of a machine's interrupt lines from outside: how many of its steps were counted before it, and the new lines,
-/// inside 0x888.
+/// inside `LINES`.
 #[derive(Clone, Copy, Debug)]
 pub struct LineRow {
     pub count: u64,

@@ -1,6 +1,6 @@
 //! Engines that make the steps of the bare machine and of the machines inside it.
 
-ghost use Rattle.std.specs.Prelude.{◌≡◌, ◌<◌, ◌≤◌, Some, length, slice_get, bit_and};
+ghost use Rattle.std.specs.Prelude.{◌≡◌, ◌<◌, ◌≤◌, Some, IfSome, length, slice_get, bit_and};
 ghost use Rattle.hv_limits.specs.Limits.{lines_mask};
 
 use crate::outcome::Outcome;
@@ -17,7 +17,7 @@ pub trait Nested {
     /// The storage and the harts.
     ghost state: { Self → State };
 
-    ghost use Rattle.hv_nest.specs.Changes.{TellsChanges};
+    ghost use Rattle.hv_nest.specs.Changes.{differences};
     ghost use Rattle.hv_nest.specs.Frame.{IsFramedBy};
     ghost use Rattle.hv_nest.specs.Move.{moved_of, lined_state, running_of};
 
@@ -25,7 +25,7 @@ pub trait Nested {
     fn step(&mut self, hart: u32) -> Outcome
         requires { hart < length (state self.old).harts }
         ensures moves { record { kind = result.kind; state = state self.new } ≡ moved_of (state self.old) hart }
-        ensures changed { TellsChanges (state self.old).storage (state self.new).storage result.changed }
+        ensures changed { result.changed ≡ differences (state self.old).storage (state self.new).storage }
         ensures frame { IsFramedBy (state self.old).storage (running_of (state self.old) hart) (state self.new).storage }
         ensures next { IsNextInside (state self.old) hart }
         ensures harts { length (state self.new).harts ≡ length (state self.old).harts }
@@ -47,6 +47,11 @@ pub trait Nested {
     fn cpu(&self, hart: u32) -> Cpu
         requires { hart < length (state self.now).harts }
         ensures { slice_get (state self.now).harts hart ≡ Some result };
+
+    /// The interrupts that are pending in a hart, with its lines.
+    fn mip(&self, hart: u32) -> u32
+        requires { hart < length (state self.now).harts }
+        ensures { IfSome (slice_get (state self.now).harts hart) (λ r. result ≡ r.mip) };
 
     /// The number of harts.
     fn harts(&self) -> u32

@@ -1,7 +1,7 @@
 //! Notes of the words that a step changes, as they were before it.
 
 ghost use Rattle.std.specs.Prelude.{◌≡◌, ◌≢◌, ℕ, ◌+◌, ◌<◌, ◌≤◌, ◌++◌, ◌∷◌, [], true, false, min, IfNone, IfSome, MatchOption, Some, length, slice_index, slice_set};
-ghost use Rattle.hv_nest.specs.Changes.{TellsChanges};
+ghost use Rattle.hv_nest.specs.Changes.{differences};
 ghost use Rattle.hv_nest.specs.Notes.{undone, is_noted, is_exact, SameBetween, IsNextChange};
 
 use crate::changed::{Changed, ChangedRow};
@@ -140,7 +140,18 @@ impl Notes {
     /// The words that are others now, by rising place.
     #[tactic(auto, using(crate::proofs::Told::telling))]
     pub(crate) fn changed(&self, store: &Store) -> Changed
-        ensures { TellsChanges (undone store.now self.now) store.now result }
+        ensures { result ≡ differences (undone store.now self.now) store.now }
+    {
+        if self.len == 0 {
+            return Changed::none();
+        }
+        self.rows(store)
+    }
+
+    // The same where there are notes.
+    #[tactic(auto, using(crate::proofs::Told::telling))]
+    fn rows(&self, store: &Store) -> Changed
+        ensures { result ≡ differences (undone store.now self.now) store.now }
     {
         let _notes = self.as_slice();
         let _pages = store.pages();

@@ -1,22 +1,18 @@
 //! What a step writes, with notes of what it changes.
 
-ghost use Rattle.std.specs.Prelude.{◌≡◌, ◌+◌, ◌<◌, ◌≤◌, [], Some, true, length, drop, slice_get};
+ghost use Rattle.std.specs.Prelude.{◌≡◌, ◌+◌, ◌<◌, ◌≤◌, [], true, length, drop};
 ghost use Rattle.std.proofs.Math.Seq.{sets};
 ghost use Rattle.hv_word.specs.Storage.{page_count};
 ghost use Rattle.hv_block.specs.Block.{regs_at, put_regs, with_fault};
-ghost use Rattle.hv_map.specs.Chain.{map_along};
-ghost use Rattle.hv_map.specs.Levels.{IsWithin};
 ghost use Rattle.hv_exec.specs.Changes.{differing, changed_regs};
 ghost use Rattle.hv_nest.specs.Notes.{undone, is_exact};
 
 use crate::notes::Notes;
 use hv_block::block_word;
 use hv_cpu::Cpu;
-use hv_map::{Chain, View, resolve};
-use hv_store::{Access, Refusal, Slot, Space, Steps, Store, Way};
+use hv_map::{Chain, View, page_slot};
+use hv_store::{Access, Refusal, Space, Store, Way};
 use hv_word::{Lane, lane_put};
-use std::marker::Brand;
-use std::sync::ledger::{Blank, Ledger};
 
 /// The store as the last machine of a chain sees it, where the words that change are noted.
 #[derive(Drop)]
@@ -60,7 +56,7 @@ impl Space for Noting<'_> {
     }
 
     fn write(&mut self, page: u32, word: u32, lane: Lane, value: u32) -> Result<(), Refusal> {
-        let Way::Open { host } = slot_of(self.store, self.chain, page).write else {
+        let Way::Open { host } = page_slot(self.store, self.chain, page).write else {
             return View {
                 store: self.store,
                 chain: self.chain,
@@ -75,7 +71,7 @@ impl Space for Noting<'_> {
     }
 
     fn clear_fault(&mut self, page: u32) -> Result<(), Refusal> {
-        let Way::Open { host } = slot_of(self.store, self.chain, page).write else {
+        let Way::Open { host } = page_slot(self.store, self.chain, page).write else {
             return View {
                 store: self.store,
                 chain: self.chain,
@@ -87,25 +83,57 @@ impl Space for Noting<'_> {
     }
 }
 
-// Where a page of the chain's machine lies.
-fn slot_of(store: &Store, chain: &Chain, page: u32) -> Slot
-    requires { page < length (map_along store.now chain.now) }
-    ensures slot { slice_get (map_along store.now chain.now) page ≡ Some result }
-    ensures within { IsWithin (page_count store.now) (length chain.now) result }
-{
-    slot_from::<Brand>(store, chain, page, Blank::new(1))
+/// The store as the bare machine sees it, where the words that change are noted.
+#[derive(Drop)]
+pub(crate) struct NotingBare<'a> {
+    pub(crate) store: &'a mut Store,
+    pub(crate) notes: &'a mut Notes,
+    ghost exact: { is_exact store.now notes.now ≡ true },
 }
 
-fn slot_from<L: Ledger>(store: &Store, chain: &Chain, page: u32, blank: Blank) -> Slot
-    requires page { page < length (map_along store.now chain.now) }
-    requires name { blank.name ≡ L.name }
-    requires parts { blank.parts ≡ L.parts }
-    requires some { 0 < blank.parts }
-    ensures slot { slice_get (map_along store.now chain.now) page ≡ Some result }
-    ensures within { IsWithin (page_count store.now) (length chain.now) result }
-{
-    let mut steps = Steps::<L>::new(blank);
-    resolve(store, chain, page, &mut steps)
+#[tactic(auto, using(hv_store::proofs::Identity::identities))]
+impl Space for NotingBare<'_> {
+    ghost use Rattle.std.specs.Prelude.{[], ◌∷◌, ◌-◌, length};
+    ghost use Rattle.hv_word.specs.Storage.{page_count};
+    ghost use Rattle.hv_store.specs.Access.{identity};
+    ghost use Rattle.hv_nest.specs.Notes.{undone};
+
+    ghost storage = { λ v. v.store.now };
+
+    ghost slots = { λ v. identity (page_count v.store.now) };
+
+    ghost depth = { λ _. 0 };
+
+    ghost place = { λ v. v.store.ghost_name ∷ v.notes.ghost_name ∷ [] };
+
+    ghost frame = { λ _. [] };
+
+    ghost origin = { λ v. undone v.store.now v.notes.now };
+
+    ghost room = { λ v. 1 - length v.notes.now };
+
+    fn pages(&self) -> u32 {
+        self.store.pages()
+    }
+
+    fn read(&mut self, page: u32, word: u32, _access: Access) -> Result<u32, Refusal> {
+        let _pages = self.store.pages();
+        Ok(self.store.get(1024 * page + word))
+    }
+
+    fn write(&mut self, page: u32, word: u32, lane: Lane, value: u32) -> Result<(), Refusal> {
+        let _pages = self.store.pages();
+        let at = 1024 * page + word;
+        let old = self.store.get(at);
+        self.notes.put(self.store, at, lane_put(old, lane, value));
+        Ok(())
+    }
+
+    fn clear_fault(&mut self, page: u32) -> Result<(), Refusal> {
+        let _pages = self.store.pages();
+        put_fault(self.store, self.notes, page, 0, 0, 0);
+        Ok(())
+    }
 }
 
 /// Puts the registers into the control block in bare page `page`, and notes what changes.

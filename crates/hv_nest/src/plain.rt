@@ -8,7 +8,6 @@ use crate::harts::Harts;
 use crate::nested::Nested;
 use crate::outcome::Outcome;
 use crate::running::path_of;
-use crate::step::host_step;
 use hv_cpu::Cpu;
 use hv_map::Path;
 use hv_store::Store;
@@ -48,26 +47,26 @@ impl Plain {
 impl Nested for Plain {
     ghost state = { λ p. p };
 
+    #[inline(always)]
     fn step(&mut self, hart: u32) -> Outcome {
         let _pages = self.store.pages();
-        let mut cpu = self.harts.get(hart);
-        let outcome = host_step(&mut self.store, &mut cpu, hart);
-        self.harts.put(hart, &cpu);
-        outcome
+        self.harts.step(&mut self.store, hart)
     }
 
     fn lines(&mut self, hart: u32, mask: u32) {
-        let mut cpu = self.harts.get(hart);
-        cpu.set_lines(mask);
-        self.harts.put(hart, &cpu);
+        self.harts.set_lines(hart, mask);
     }
 
     fn running(&mut self, hart: u32) -> Path {
-        path_of(&self.store, &self.harts.get(hart))
+        path_of(&self.store, self.harts.at(hart))
     }
 
     fn cpu(&self, hart: u32) -> Cpu {
         self.harts.get(hart)
+    }
+
+    fn mip(&self, hart: u32) -> u32 {
+        self.harts.at(hart).mip
     }
 
     fn harts(&self) -> u32 {

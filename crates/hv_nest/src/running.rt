@@ -18,6 +18,9 @@ pub(crate) fn path_of(store: &Store, cpu: &Cpu) -> Path
     requires { NextBelow (page_count store.now) cpu.now }
     ensures { result ≡ running_path store.now cpu.now }
 {
+    if entered(cpu).is_none() {
+        return Path::new();
+    }
     follow(store, &Chain::new(), cpu)
 }
 

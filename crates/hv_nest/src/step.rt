@@ -7,14 +7,17 @@ ghost use Rattle.hv_block.specs.Block.{access_word};
 ghost use Rattle.hv_map.specs.Chain.{map_along, running_path};
 ghost use Rattle.hv_limits.specs.Limits.{depth_limit};
 ghost use Rattle.hv_exec.specs.Changes.{changed_regs};
-ghost use Rattle.hv_nest.specs.Changes.{TellsChanges};
+ghost use Rattle.hv_nest.specs.Changes.{differences};
 ghost use Rattle.hv_nest.specs.Frame.{IsFramedBy};
 ghost use Rattle.hv_nest.specs.Notes.{undone};
-ghost use Rattle.hv_nest.specs.Step.{idle, interrupted, worked, told, step_of, host_step_of};
-ghost use Rattle.hv_nest.specs.Kinds.{step_as, stepped, NextBelow};
+ghost use Rattle.hv_nest.specs.Noted.{AreNoted, NothingDone};
+ghost use Rattle.hv_store.specs.Access.{identity};
+ghost use Rattle.hv_nest.specs.Step.{Worked, idle, interrupted, worked, told, step_of, host_step_of};
+ghost use Rattle.hv_nest.specs.Kinds.{step_as, step_result, NextBelow};
 
+use crate::changed::Changed;
 use crate::notes::Notes;
-use crate::noting::{Noting, put_cpu, put_fault};
+use crate::noting::{Noting, NotingBare, put_cpu, put_fault};
 use crate::outcome::{Outcome, StepKind};
 use hv_cpu::Cpu;
 use hv_csr::{pending, take_trap};
@@ -24,11 +27,29 @@ use hv_map::{Chain, Found, child};
 use hv_store::{Access, Refusal, Store};
 
 /// One step of a hart of the bare machine, whose next, if it has one, is a page of the storage.
-#[tactic(auto, using(crate::proofs::Rows::hosting))]
+#[inline(always)]
 pub fn host_step(store: &mut Store, cpu: &mut Cpu, hart: u32) -> Outcome
     requires { NextBelow (page_count store.old) cpu.old }
     ensures steps { step_as result.kind store.new cpu.new ≡ host_step_of store.old hart cpu.old }
-    ensures changed { TellsChanges store.old store.new result.changed }
+    ensures changed { result.changed ≡ differences store.old store.new }
+    ensures frame { IsFramedBy store.old (running_path store.old cpu.old) store.new }
+    ensures next { NextBelow (page_count store.old) cpu.new }
+    ensures len { length store.new ≡ length store.old }
+{
+    if entered(cpu).is_some() {
+        inner_step(store, cpu, hart)
+    } else {
+        bare_step(store, cpu, hart)
+    }
+}
+
+// The same where the hart runs a machine. It needs much more room than a step of the bare machine alone.
+#[inline(never)]
+#[tactic(auto, using(crate::proofs::Rows::hosting))]
+fn inner_step(store: &mut Store, cpu: &mut Cpu, hart: u32) -> Outcome
+    requires { NextBelow (page_count store.old) cpu.old }
+    ensures steps { step_as result.kind store.new cpu.new ≡ host_step_of store.old hart cpu.old }
+    ensures changed { result.changed ≡ differences store.old store.new }
     ensures frame { IsFramedBy store.old (running_path store.old cpu.old) store.new }
     ensures next { NextBelow (page_count store.old) cpu.new }
     ensures len { length store.new ≡ length store.old }
@@ -39,6 +60,50 @@ pub fn host_step(store: &mut Store, cpu: &mut Cpu, hart: u32) -> Outcome
             kind,
             changed: notes.changed(store),
         },
+        Err(_) => unreachable!(),
+    }
+}
+
+// The same where the hart runs no machine.
+#[inline(always)]
+#[tactic(auto, using(crate::proofs::Rows::hosting))]
+fn bare_step(store: &mut Store, cpu: &mut Cpu, hart: u32) -> Outcome
+    requires { cpu.old.next ≡ 0 }
+    ensures steps { step_as result.kind store.new cpu.new ≡ host_step_of store.old hart cpu.old }
+    ensures changed { result.changed ≡ differences store.old store.new }
+    ensures frame { IsFramedBy store.old (running_path store.old cpu.old) store.new }
+    ensures next { NextBelow (page_count store.old) cpu.new }
+    ensures len { length store.new ≡ length store.old }
+{
+    if let Some(cause) = pending(cpu) {
+        take_trap(cpu, cause, true, 0);
+        return Outcome {
+            kind: StepKind::Worked,
+            changed: Changed::none(),
+        };
+    }
+    let mut notes = Notes::new();
+    act_bare(store, &mut notes, hart, cpu);
+    Outcome {
+        kind: StepKind::Worked,
+        changed: notes.changed(store),
+    }
+}
+
+// One instruction of the bare machine.
+#[inline(always)]
+#[tactic(auto, using(crate::proofs::Counts::counts))]
+fn act_bare(store: &mut Store, notes: &mut Notes, hart: u32, cpu: &mut Cpu)
+    requires fresh { notes.old ≡ [] }
+    requires next { cpu.old.next ≡ 0 }
+    ensures acts { Worked store.new cpu.new ≡ worked (act_of store.old (identity (page_count store.old)) hart cpu.old) }
+    ensures next { NextBelow (page_count store.old) cpu.new }
+    ensures len { length store.new ≡ length store.old }
+    ensures origin { undone store.new notes.new ≡ store.old }
+{
+    let mut noting = NotingBare { store, notes };
+    match act(cpu, hart, &mut noting) {
+        Ok(()) => {}
         Err(_) => unreachable!(),
     }
 }
@@ -55,16 +120,12 @@ pub(crate) fn step_at(
 ) -> Result<StepKind, Refusal>
     requires fresh { notes.old ≡ [] }
     requires next { NextBelow (length (map_along store.old chain.now)) cpu.old }
-    ensures steps { stepped result store.new cpu.new
+    ensures steps { step_result result store.new cpu.new
         ≡ step_of (depth_limit - length chain.now) store.old (map_along store.old chain.now) (length chain.now) hart cpu.old }
     ensures next { NextBelow (length (map_along store.old chain.now)) cpu.new }
-    ensures len { length store.new ≡ length store.old }
     ensures level { IfErr result (λ e. e.level < length chain.now) }
-    ensures err_storage { OnErr result (store.new ≡ store.old) }
-    ensures err_cpu { OnErr result (cpu.new ≡ cpu.old) }
-    ensures err_notes { OnErr result (notes.new ≡ []) }
-    ensures origin { undone store.new notes.new ≡ store.old }
-    ensures count { length notes.new + changed_regs cpu.old cpu.new ≤ 6 }
+    ensures err { OnErr result (NothingDone store.old store.new cpu.old cpu.new notes.new) }
+    ensures noted { AreNoted store.old store.new cpu.old cpu.new notes.new }
 {
     let level = chain.len();
     if let Some(cause) = pending(cpu) {
@@ -156,15 +217,11 @@ fn act_along(
 ) -> Result<StepKind, Refusal>
     requires fresh { notes.old ≡ [] }
     requires next { cpu.old.next ≡ 0 }
-    ensures acts { stepped result store.new cpu.new ≡ worked (act_of store.old (map_along store.old chain.now) hart cpu.old) }
+    ensures acts { step_result result store.new cpu.new ≡ worked (act_of store.old (map_along store.old chain.now) hart cpu.old) }
     ensures next { NextBelow (length (map_along store.old chain.now)) cpu.new }
-    ensures len { length store.new ≡ length store.old }
     ensures level { IfErr result (λ e. e.level < length chain.now) }
-    ensures err_storage { OnErr result (store.new ≡ store.old) }
-    ensures err_cpu { OnErr result (cpu.new ≡ cpu.old) }
-    ensures err_notes { OnErr result (notes.new ≡ []) }
-    ensures origin { undone store.new notes.new ≡ store.old }
-    ensures count { length notes.new + changed_regs cpu.old cpu.new ≤ 6 }
+    ensures err { OnErr result (NothingDone store.old store.new cpu.old cpu.new notes.new) }
+    ensures noted { AreNoted store.old store.new cpu.old cpu.new notes.new }
 {
     let mut noting = Noting {
         store,
@@ -188,15 +245,11 @@ fn tell(
 ) -> Result<StepKind, Refusal>
     requires fresh { notes.old ≡ [] }
     requires host { host < page_count store.old }
-    ensures tells { stepped result store.new cpu.new ≡ told store.old level cpu.old host refusal }
+    ensures tells { step_result result store.new cpu.new ≡ told store.old level cpu.old host refusal }
     ensures next { OnOk result (cpu.new.next ≡ 0) }
-    ensures len { length store.new ≡ length store.old }
     ensures level { IfErr result (λ e. (e.level ≡ refusal.level) × (e.level ≢ level)) }
-    ensures err_storage { OnErr result (store.new ≡ store.old) }
-    ensures err_cpu { OnErr result (cpu.new ≡ cpu.old) }
-    ensures err_notes { OnErr result (notes.new ≡ []) }
-    ensures origin { undone store.new notes.new ≡ store.old }
-    ensures count { length notes.new + changed_regs cpu.old cpu.new ≤ 6 }
+    ensures err { OnErr result (NothingDone store.old store.new cpu.old cpu.new notes.new) }
+    ensures noted { AreNoted store.old store.new cpu.old cpu.new notes.new }
 {
     if refusal.level != level {
         return Err(refusal);

@@ -15,7 +15,7 @@ use Rattle.hv_whole.specs.Whole.{own, regs_of, hart_regs, AreMasked}
 use Rattle.hv_whole.proofs.Readings.{regs_last}
 use Rattle.hv_whole.proofs.WholeRuns.{whole_runs, on_path, root_path}
 use Rattle.hv_whole.proofs.Roots.{root_run, root_sees}
-use Rattle.hv_run.specs.Record.{WatchOf, told_by}
+use Rattle.hv_run.specs.Record.{WatchOf, watch_record}
 use Rattle.hv_run.specs.Run.{state_at}
 use Rattle.hv_run.specs.Stands.{IsWatchable, IsSized}
 use Rattle.hv_run.specs.Promises.{tally_at, twin_after, HasRegisters, IsAsBare, IsBareRun, GuestsLaw}
@@ -100,7 +100,7 @@ guests start moves (w ∷ ws) can sized masked =
 
 -- what that says of the end of the run, for a watch that tells that it stood apart and wasn't touched
 pub at_last : (start : State) (moves : List Move) (w : WatchOf) (items : List Item) (t : Tally) → IsBareRun start moves w → pin_of start.storage w.path ≡ Some items → t ≡ tally_of w.hart w.path items (foot start.storage items) start moves no_tally
-    → (told_by w start items t).apart ≡ true → (told_by w start items t).touched ≡ false → IsAsBare start w items (last_of start moves) (twin_after start w items t)
+    → (watch_record w start items t).apart ≡ true → (watch_record w start items t).touched ≡ false → IsAsBare start w items (last_of start moves) (twin_after start w items t)
 at_last start moves w items t bare e told d quiet =
     let all : take (length moves) moves ≡ moves = take_all (length moves) moves (omega arith) in
     let here : tally_at start moves w items (length moves) ≡ t =

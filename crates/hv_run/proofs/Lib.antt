@@ -1,5 +1,4 @@
 pub mod Begins
-pub mod Blocks
 pub mod Changes
 pub mod Guests
 pub mod Lists

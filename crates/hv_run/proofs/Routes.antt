@@ -1,5 +1,5 @@
 -- Each fault of a run is routed.
-use Rattle.std.proofs.Common.{◌≡◌, ℕ, zero, suc, ◌+◌, ◌-◌, ◌<◌, ◌≤◌, IfSome, Option, Some, None, List, [], ◌∷◌, ◌++◌, length, get_or, take, drop, refl, sym, ap, ◌∙◌, subst, arith, slice_get}
+use Rattle.std.proofs.Common.{◌≡◌, ℕ, zero, suc, ◌+◌, ◌-◌, ◌<◌, ◌≤◌, IfSome, Option, Some, None, List, [], ◌∷◌, ◌++◌, length, get_or, take, refl, sym, ap, ◌∙◌, subst, arith, slice_get}
 use Rattle.std.proofs.lemmas.List.{take_all, take_more}
 use Rattle.std.proofs.lemmas.Option.{slice_get-get_or}
 use Rattle.hv_word.specs.Storage.{page_count}
@@ -11,7 +11,7 @@ use Rattle.hv_nest.specs.Step.{Stepped, Worked, Recalled, Faulted, Barred, host_
 use Rattle.hv_nest.specs.Move.{Move, StepOf, LinesOf, moved_by, moved_at, moved_of}
 use Rattle.hv_nest.specs.Routing.{fault_of}
 use Rattle.hv_nest.proofs.Routes.{routing}
-use Rattle.hv_run.specs.Record.{FaultTold, Count, no_count, kind_counted, count_after, count_of, last_kept}
+use Rattle.hv_run.specs.Record.{FaultRecord, Count, no_count, kind_counted, count_after, count_of}
 use Rattle.hv_run.specs.Run.{state_at, steps_in, StaysInside}
 use Rattle.hv_run.specs.Promises.{fault_in, IsRoutedFrom, IsRoutedIn, IsRoutedFault, EachFault, AreRouted, FaultsLaw}
 use Rattle.hv_run.proofs.Moves.{count_more}
@@ -35,18 +35,10 @@ routed_at st hart (Some r) inside =
 pub step_routed : (st : State) (hart : ℕ) → IsNextInside st hart → IsRoutedIn st hart (fault_in (moved_of st hart).kind)
 step_routed st hart inside = routed_at st hart (slice_get st.harts hart) inside
 
--- one more fault, and the last of some
-each_pushed : (P : FaultTold → Type 0) (fs : List FaultTold) (f : FaultTold) → EachFault P fs → P f → EachFault P (fs ++ f ∷ [])
+-- one more fault
+each_pushed : (P : FaultRecord → Type 0) (fs : List FaultRecord) (f : FaultRecord) → EachFault P fs → P f → EachFault P (fs ++ f ∷ [])
 each_pushed P [] f all one = (one, tt)
 each_pushed P (g ∷ fs) f all one = (all.0, each_pushed P fs f all.1 one)
-
-each_dropped : (P : FaultTold → Type 0) (n : ℕ) (fs : List FaultTold) → EachFault P fs → EachFault P (drop n fs)
-each_dropped P zero fs all = all
-each_dropped P (suc n) [] all = tt
-each_dropped P (suc n) (f ∷ fs) all = each_dropped P n fs all.1
-
-pub last_routed : (start : State) (moves : List Move) (fs : List FaultTold) → AreRouted start moves fs → AreRouted start moves (last_kept fs)
-last_routed start moves fs all = each_dropped (IsRoutedFault start moves) (length fs - 1024) fs all
 
 -- what is counted after some of the moves
 record Counted (start : State) (moves : List Move) (k : ℕ) (c : Count) : Type 0 where
@@ -65,7 +57,7 @@ module _ (start : State) (moves : List Move) (all : StaysInside start moves) whe
       by WorkedKind is steps = record { steps = steps; faults = done.faults }
       by (Recall l) is steps = record { steps = steps; faults = done.faults }
       by (Fault l cause address a) is steps =
-          let f : FaultTold = record { step = c.steps + 1; hart = hart; receiver = l; cause = cause; address = address; access = a } in
+          let f : FaultRecord = record { step = c.steps + 1; hart = hart; receiver = l; cause = cause; address = address; access = a } in
           record {
             steps = steps;
             faults = each_pushed (IsRoutedFault start moves) c.faults f done.faults record {

@@ -7,12 +7,12 @@ use Rattle.hv_map.specs.declared.path.Watch.{Watch}
 use Rattle.hv_nest.specs.State.{State}
 use Rattle.hv_nest.specs.Move.{last_of}
 use Rattle.hv_nest.specs.Watched.{tally_of}
-use Rattle.hv_run.specs.declared.numbers.Counts.{Counts}
-use Rattle.hv_run.specs.Record.{count_of, WatchOf, WatchTold, told_at, record_of}
-use Rattle.hv_run.specs.Play.{Watching, Played, rows_told, CountsWithin, TellsWithin}
+use Rattle.hv_run.specs.declared.counts.Counts.{Counts}
+use Rattle.hv_run.specs.Record.{count_of, WatchOf, WatchRecord, watch_records, record_of}
+use Rattle.hv_run.specs.Play.{Watching, Played, all_so_far, CountsWithin, TellsWithin}
 use Rattle.hv_run.specs.Run.{StaysInside}
 use Rattle.hv_run.specs.Stands.{watch_of, watches_of, EachWatch, CanWatch, IsSized, KeptOf, EachKept, NewAt, IsNew, EachNew, StandsFor}
-use Rattle.hv_run.proofs.Moves.{all_told}
+use Rattle.hv_run.proofs.Moves.{all_records}
 
 pub each_at : (P : WatchOf → Type 0) (ws : List Watch) (i : ℕ) (d : Watch) → EachWatch P (watches_of ws) → i < length ws → P (watch_of (get_or ws i d))
 each_at P [] i d each lt = absurd (omega arith)
@@ -35,23 +35,23 @@ new_more start ws i w ks ls k lt at each new is =
     (subst (EachNew start (watches_of (take i ws) ++ watch_of w ∷ [])) (sym is)
     (new_push start (watches_of (take i ws)) ks (watch_of w) k each new))
 
-none_told : (start : State) (w : WatchOf) (o : Option (List Item)) (k : Watching) → NewAt start w o k → (k.told ∷ [] ≡ told_at w start [] o) × KeptOf start (last_of start []) w o k × ((k.told.count ≡ 0) × (k.told.line_total ≡ 0))
+none_recorded : (start : State) (w : WatchOf) (o : Option (List Item)) (k : Watching) → NewAt start w o k → (k.so_far ∷ [] ≡ watch_records w start [] o) × KeptOf start (last_of start []) w o k × ((k.so_far.count ≡ 0) × (k.so_far.line_total ≡ 0))
 unfolding last_of tally_of
-none_told start w None k new = absurd new
-none_told start w (Some items) k new = (
-  ap (λ (x : WatchTold). x ∷ []) new.0,
+none_recorded start w None k new = absurd new
+none_recorded start w (Some items) k new = (
+  ap (λ (x : WatchRecord). x ∷ []) new.0,
   new.1,
-  (ap (λ (x : WatchTold). x.count) new.0, ap (λ (x : WatchTold). x.line_total) new.0),
+  (ap (λ (x : WatchRecord). x.count) new.0, ap (λ (x : WatchRecord). x.line_total) new.0),
 )
 
-all_none : (start : State) (ws : List WatchOf) (ks : List Watching) → EachNew start ws ks → (rows_told ks ≡ all_told start [] ws) × EachKept start (last_of start []) ws ks
+all_none : (start : State) (ws : List WatchOf) (ks : List Watching) → EachNew start ws ks → (all_so_far ks ≡ all_records start [] ws) × EachKept start (last_of start []) ws ks
 all_none start [] [] each = (refl, tt)
 all_none start [] (k ∷ ks) each = absurd each
 all_none start (w ∷ ws) [] each = absurd each
 all_none start (w ∷ ws) (k ∷ ks) each =
-    let head = none_told start w (pin_of start.storage w.path) k each.0 in
+    let head = none_recorded start w (pin_of start.storage w.path) k each.0 in
     let tail = all_none start ws ks each.1 in (
-      ap (λ (xs : List WatchTold). xs ++ rows_told ks) head.0 ∙ ap (λ (ys : List WatchTold). told_at w start [] (pin_of start.storage w.path) ++ ys) tail.0,
+      ap (λ (xs : List WatchRecord). xs ++ all_so_far ks) head.0 ∙ ap (λ (ys : List WatchRecord). watch_records w start [] (pin_of start.storage w.path) ++ ys) tail.0,
       (head.1, tail.1),
     )
 
@@ -71,7 +71,7 @@ pub new_within : (start : State) (ws : List WatchOf) (ks : List Watching) → Ea
 new_within start ws [] each i d lt = absurd (omega arith)
 new_within start [] (k ∷ ks) each i d lt = absurd each
 new_within start (w ∷ ws) (k ∷ ks) each zero d lt =
-    let e = none_told start w (pin_of start.storage w.path) k each.0 in (omega (arith, e.2.0), omega (arith, e.2.1))
+    let e = none_recorded start w (pin_of start.storage w.path) k each.0 in (omega (arith, e.2.0), omega (arith, e.2.1))
 new_within start (w ∷ ws) (k ∷ ks) each (suc i) d lt = new_within start ws ks each.1 i d (omega arith)
 
 pub new_length : (start : State) (ws : List Watch) (ks : List Watching) → EachNew start (watches_of ws) ks → length ks ≡ length ws
@@ -80,26 +80,25 @@ new_length start [] (k ∷ ks) each = absurd each
 new_length start (w ∷ ws) [] each = absurd each
 new_length start (w ∷ ws) (k ∷ ks) each = let e = new_length start ws ks each.1 in omega (arith, e)
 
-nothing_told : (start : State) (ws : List WatchOf) (rows : List WatchTold) → rows ≡ all_told start [] ws → record { steps = 0; faults = 0; recalls = 0; kept = []; watches = rows } ≡ record_of start [] ws
+nothing_recorded : (start : State) (ws : List WatchOf) (rows : List WatchRecord) → rows ≡ all_records start [] ws → record { steps = 0; faults = 0; recalls = 0; kept = []; watches = rows } ≡ record_of start [] ws
 unfolding record_of count_of
-nothing_told start ws rows e = ap (λ (rows : List WatchTold). record { steps = 0; faults = 0; recalls = 0; kept = []; watches = rows }) e
+nothing_recorded start ws rows e = ap (λ (rows : List WatchRecord). record { steps = 0; faults = 0; recalls = 0; kept = []; watches = rows }) e
 
 none_inside : (start : State) → StaysInside start []
 unfolding StaysInside
 none_inside start = tt
 
-pub stands_new : (start : State) (p : Played) (ws : List WatchOf) → CanWatch start ws → length ws ≤ 16 → p.counts ≡ record { steps = 0; faults = 0; recalls = 0; kept = [] } → EachNew start ws p.watching → StandsFor p start [] ws
-stands_new start p ws can few counts each =
+pub stands_new : (start : State) (p : Played) (ws : List WatchOf) → CanWatch start ws → p.counts ≡ record { steps = 0; faults = 0; recalls = 0; kept = [] } → EachNew start ws p.watching → StandsFor p start [] ws
+stands_new start p ws can counts each =
     let none = all_none start ws p.watching each in
     record {
       watched = can;
-      few = few;
       sized = all_sized start ws p.watching each;
       masked = tt;
       inside = none_inside start;
-      told =
-          ap (λ (c : Counts). record { steps = c.steps; faults = c.faults; recalls = c.recalls; kept = c.kept; watches = rows_told p.watching }) counts
-          ∙ nothing_told start ws (rows_told p.watching) none.0;
+      records =
+          ap (λ (c : Counts). record { steps = c.steps; faults = c.faults; recalls = c.recalls; kept = c.kept; watches = all_so_far p.watching }) counts
+          ∙ nothing_recorded start ws (all_so_far p.watching) none.0;
       kept = none.1;
     }
 
@@ -110,6 +109,6 @@ none_within c e =
     let r : c.recalls ≡ 0 = ap (λ (x : Counts). x.recalls) e in
     (omega arith, omega arith, omega arith)
 
-pub new_sound : (start : State) (ws : List Watch) (c : Counts) (ks : List Watching) (rows : List WatchTold) (cap : ℕ) → c ≡ record { steps = 0; faults = 0; recalls = 0; kept = [] } → EachNew start (watches_of ws) ks → rows ≡ [] → cap ≡ length ws → CountsWithin 0 c × TellsWithin 0 ks × (rows ≡ []) × (length ks ≤ cap)
+pub new_sound : (start : State) (ws : List Watch) (c : Counts) (ks : List Watching) (rows : List WatchRecord) (cap : ℕ) → c ≡ record { steps = 0; faults = 0; recalls = 0; kept = [] } → EachNew start (watches_of ws) ks → rows ≡ [] → cap ≡ length ws → CountsWithin 0 c × TellsWithin 0 ks × (rows ≡ []) × (length ks ≤ cap)
 new_sound start ws c ks rows cap counts each none room =
     (none_within c counts, new_within start (watches_of ws) ks each, none, omega (arith, new_length start ws ks each))

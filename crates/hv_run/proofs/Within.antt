@@ -6,24 +6,24 @@ use Rattle.std.proofs.lemmas.Grind.{drop_more_same}
 use Rattle.hv_cpu.specs.Lines.{lines}
 use Rattle.hv_nest.specs.State.{State}
 use Rattle.hv_run.specs.declared.happened.Happened.{Happened}
-use Rattle.hv_run.specs.Record.{WatchTold}
-use Rattle.hv_run.specs.Play.{Watching, told_after, watched_after, all_after, TellsWithin}
+use Rattle.hv_run.specs.Record.{WatchRecord}
+use Rattle.hv_run.specs.Play.{Watching, record_after, watched_after, all_after, TellsWithin}
 
 total_within : (e : Bool) (m n : ℕ) → m ≤ n → cond e m (m + 1) ≤ n + 1
 total_within true m n le = omega arith
 total_within false m n le = omega arith
 
-told_within : (counts touching : Bool) (old new n : ℕ) (w : WatchTold) → w.count ≤ n → w.line_total ≤ n → ((told_after counts touching old new w).count ≤ n + 1) × ((told_after counts touching old new w).line_total ≤ n + 1)
-told_within true touching old new n w count total = (omega arith, omega arith)
-told_within false touching old new n w count total =
+record_within : (counts touching : Bool) (old new n : ℕ) (w : WatchRecord) → w.count ≤ n → w.line_total ≤ n → ((record_after counts touching old new w).count ≤ n + 1) × ((record_after counts touching old new w).line_total ≤ n + 1)
+record_within true touching old new n w count total = (omega arith, omega arith)
+record_within false touching old new n w count total =
     (omega arith, total_within (nat_eq (lines old) (lines new)) w.line_total n total)
 
 pub all_within : (n : ℕ) (h : Happened) (st : State) (ws : List Watching) → TellsWithin n ws → TellsWithin (n + 1) (all_after h st ws)
 all_within n h st ws within k d lt =
     let inside : k < length ws = omega (arith, length-map ws (watched_after h st)) in
     let at : get_or (map (watched_after h st) ws) k d ≡ watched_after h st (get_or ws k d) = get_or-map (watched_after h st) ws k d d inside in
-    subst (λ (w : Watching). (w.told.count ≤ n + 1) × (w.told.line_total ≤ n + 1)) (sym at)
-    (told_within _ _ _ _ n (get_or ws k d).told (within k d inside).0 (within k d inside).1)
+    subst (λ (w : Watching). (w.so_far.count ≤ n + 1) × (w.so_far.line_total ≤ n + 1)) (sym at)
+    (record_within _ _ _ _ n (get_or ws k d).so_far (within k d inside).0 (within k d inside).1)
 
 -- a part that was written back into the whole
 pub written_back : (n : ℕ) (xs ys : List Watching) → length xs ≡ n → take n (xs ++ drop (length xs) ys) ≡ xs
@@ -38,8 +38,8 @@ same_at xs old i d e =
     ∙ get_or-drop i old 0 d
     ∙ ap (λ (k : ℕ). get_or old k d) (omega arith)
 
-pub told_more : (h : Happened) (st : State) (xs old : List Watching) (i : ℕ) (d x : Watching) → i < length xs → length old ≡ length xs → take i xs ≡ all_after h st (take i old) → drop i xs ≡ drop i old → x ≡ watched_after h st (get_or xs i d) → take (i + 1) (set xs i x) ≡ all_after h st (take (i + 1) old)
-told_more h st xs old i d x lt len told rest is =
+pub watches_more : (h : Happened) (st : State) (xs old : List Watching) (i : ℕ) (d x : Watching) → i < length xs → length old ≡ length xs → take i xs ≡ all_after h st (take i old) → drop i xs ≡ drop i old → x ≡ watched_after h st (get_or xs i d) → take (i + 1) (set xs i x) ≡ all_after h st (take (i + 1) old)
+watches_more h st xs old i d x lt len told rest is =
     take_more_set xs i x lt
     ∙ ap (λ (ys : List Watching). ys ++ x ∷ []) told
     ∙ ap (λ (y : Watching). all_after h st (take i old) ++ y ∷ []) (is ∙ ap (watched_after h st) (same_at xs old i d rest))

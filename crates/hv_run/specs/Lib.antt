@@ -1,4 +1,3 @@
-pub mod Fits
 pub mod Play
 pub mod Promises
 pub mod Record

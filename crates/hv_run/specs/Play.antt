@@ -8,16 +8,16 @@ use Rattle.hv_nest.specs.declared.outcome.StepKind.{StepKind}
 use Rattle.hv_nest.specs.declared.outcome.StepKind.TheVariants.{Worked as WorkedKind, Recall, Fault}
 use Rattle.hv_nest.specs.State.{State}
 use Rattle.hv_nest.specs.Watched.{LineChange, begins, is_outside}
-use Rattle.hv_run.specs.declared.numbers.Counts.{Counts}
+use Rattle.hv_run.specs.declared.counts.Counts.{Counts}
 use Rattle.hv_run.specs.declared.happened.Happened.{Happened}
 use Rattle.hv_run.specs.declared.happened.Happened.TheVariants.{Stepped, Lined}
-use Rattle.hv_run.specs.Record.{WatchTold, Told, last_kept}
+use Rattle.hv_run.specs.Record.{WatchRecord, PlayRecord, fault_record, last_kept}
 use Rattle.hv_limits.specs.Limits.{kept_limit}
 use Rattle.hv_apart.specs.Marked.{is_marked}
 
 -- a watch: what is told of it so far, the set of its foot's places, and its present word with the interrupt lines
 pub record Watching : Type 0 where
-  pub told : WatchTold
+  pub so_far : WatchRecord
   pub foot : List ℕ
   pub status : ℕ
 
@@ -27,16 +27,16 @@ pub record Played : Type 0 where
   pub counts : Counts
   pub watching : List Watching
 
-abbrev pub rows_told : List Watching → List WatchTold
-rows_told ws = map (λ (w : Watching). w.told) ws
+abbrev pub all_so_far : List Watching → List WatchRecord
+all_so_far ws = map (λ (w : Watching). w.so_far) ws
 
-abbrev pub told_of : Played → Told
-told_of p = record {
+abbrev pub play_record : Played → PlayRecord
+play_record p = record {
   steps = p.counts.steps;
   faults = p.counts.faults;
   recalls = p.counts.recalls;
   kept = p.counts.kept;
-  watches = rows_told p.watching;
+  watches = all_so_far p.watching;
 }
 
 -- The word that has the interrupt lines of a machine: word 42 of the bare page that is given, or mip of the hart.
@@ -54,14 +54,14 @@ any_marked foot [] = false
 any_marked foot (row ∷ rows) = is_marked foot row.at || any_marked foot rows
 
 -- whether a move counts for a watch
-abbrev pub counts_for : WatchTold → Happened → Bool
+abbrev pub counts_for : WatchRecord → Happened → Bool
 counts_for w (Stepped hart running kind changed) =
     (hart == w.hart) && (begins w.path running && not (is_outside (length w.path) kind))
 counts_for w Lined = false
 
-abbrev pub rows_of : Happened → List ChangedRow
-rows_of (Stepped hart running kind changed) = take changed.len changed.rows
-rows_of Lined = []
+abbrev pub changes_in : Happened → List ChangedRow
+changes_in (Stepped hart running kind changed) = changed
+changes_in Lined = []
 
 -- whether the word with the lines changed in another bit than the lines; a hart's word doesn't matter
 abbrev pub status_differs : Option ℕ → ℕ → ℕ → Bool
@@ -70,7 +70,7 @@ status_differs (Some g) old new = not (unlined old == unlined new)
 
 -- whether it touches the watch, if it doesn't count
 abbrev pub touches : Watching → Happened → ℕ → Bool
-touches w happened new = any_marked w.foot (rows_of happened) || status_differs w.told.block w.status new
+touches w happened new = any_marked w.foot (changes_in happened) || status_differs w.so_far.block w.status new
 
 -- one more change of the lines, if they are others; as many are kept as are told
 abbrev pub more_changes : List LineChange → ℕ → ℕ → ℕ → List LineChange
@@ -78,10 +78,11 @@ more_changes changes count old new =
     if lines old == lines new then changes
     else take kept_limit (changes ++ record { count = count; bits = lines new } ∷ [])
 
--- what is told of a watch after a move: whether it counts, whether it touches, and the word with the lines before and after
-abbrev pub told_after : Bool → Bool → ℕ → ℕ → WatchTold → WatchTold
-told_after true touching old new w = record w { count = w.count + 1 }
-told_after false touching old new w = record w {
+-- what is told of a watch after a move: whether it counts, whether it touches, and the word with the lines before and
+-- after
+abbrev pub record_after : Bool → Bool → ℕ → ℕ → WatchRecord → WatchRecord
+record_after true touching old new w = record w { count = w.count + 1 }
+record_after false touching old new w = record w {
   touched = w.touched || touching;
   line_total = (if lines old == lines new then w.line_total else w.line_total + 1);
   lines = more_changes w.lines w.count old new;
@@ -89,18 +90,22 @@ told_after false touching old new w = record w {
 
 -- a watch after a move that doesn't count
 abbrev pub watching_beside : Bool → ℕ → Watching → Watching
-watching_beside touching new w = record { told = told_after false touching w.status new w.told; foot = w.foot; status = new }
+watching_beside touching new w = record {
+  so_far = record_after false touching w.status new w.so_far;
+  foot = w.foot;
+  status = new;
+}
 
 -- a watch after a move, with the word that has the lines then
 abbrev pub watching_after : Happened → ℕ → Watching → Watching
 watching_after happened new w = record {
-  told = told_after (counts_for w.told happened) (touches w happened new) w.status new w.told;
+  so_far = record_after (counts_for w.so_far happened) (touches w happened new) w.status new w.so_far;
   foot = w.foot;
   status = new;
 }
 
 abbrev pub watched_after : Happened → State → Watching → Watching
-watched_after happened next w = watching_after happened (status_at w.told.hart w.told.block next) w
+watched_after happened next w = watching_after happened (status_at w.so_far.hart w.so_far.block next) w
 
 -- the numbers and the last faults after a step
 abbrev pub kind_after : Counts → ℕ → StepKind → Counts
@@ -109,7 +114,7 @@ kind_after c hart (Recall l) = record c { steps = c.steps + 1; recalls = c.recal
 kind_after c hart (Fault l cause address a) = record c {
   steps = c.steps + 1;
   faults = c.faults + 1;
-  kept = last_kept (c.kept ++ record { step = c.steps + 1; hart = hart; receiver = l; cause = cause; address = address; access = a } ∷ []);
+  kept = last_kept (c.kept ++ fault_record (c.steps + 1) hart l cause address a ∷ []);
 }
 
 abbrev pub counts_after : Counts → Happened → Counts
@@ -132,4 +137,4 @@ abbrev pub CountsWithin : ℕ → Counts → Type 0
 CountsWithin n c = (c.steps ≤ n) × (c.faults ≤ n) × (c.recalls ≤ n)
 
 abbrev pub TellsWithin : ℕ → List Watching → Type 0
-TellsWithin n ws = All (λ (w : Watching). (w.told.count ≤ n) × (w.told.line_total ≤ n)) ws
+TellsWithin n ws = All (λ (w : Watching). (w.so_far.count ≤ n) × (w.so_far.line_total ≤ n)) ws

@@ -1,5 +1,5 @@
--- What a play promises: a watched machine that stands apart can't tell that it runs inside others, as long as none of these
--- touches it; and each fault is told to the machine whose map refused first.
+-- What a play promises: a watched machine that stands apart can't tell that it runs inside others, as long as none of
+-- these touches it; and each fault is told to the machine whose map refused first.
 use Rattle.std.specs.Prelude.{◌≡◌, ℕ, ◌+◌, ◌*◌, ◌≤◌, true, false, Bool, IfSome, IsTrue, IsFalse, List, [], ◌∷◌, ◌++◌, length, take, Option, Some, None, slice_get}
 use Rattle.hv_cpu.specs.Regs.{Regs}
 use Rattle.hv_store.specs.declared.access.Refusal.{Refusal}
@@ -17,7 +17,7 @@ use Rattle.hv_nest.specs.Routing.{regs_along, hart_along, is_calm, IsRouted}
 use Rattle.hv_nest.specs.Watched.{Tally, no_tally, tally_of, foot, last_block}
 use Rattle.hv_nest.specs.Bare.{bare_of}
 use Rattle.hv_whole.specs.Whole.{own, AreMasked}
-use Rattle.hv_run.specs.Record.{FaultTold, WatchOf, no_count, count_of}
+use Rattle.hv_run.specs.Record.{FaultRecord, WatchOf, faults_of}
 use Rattle.hv_run.specs.Play.{Played}
 use Rattle.hv_run.specs.Run.{state_at, steps_in, StaysInside}
 use Rattle.hv_run.specs.Stands.{EachWatch, CanWatch, IsSized, StandsFor}
@@ -30,10 +30,11 @@ tally_at start moves w items k = tally_of w.hart w.path items (foot start.storag
 abbrev pub is_touched_by : State → List Move → WatchOf → List Item → ℕ → Bool
 is_touched_by start moves w items k = (tally_at start moves w items k).touched
 
--- a bare machine of one hart that began with the storage that the watched one saw at the start, and with its registers, and
--- that made the steps and get the changes of its interrupt lines which are told of these moves
+-- a bare machine of one hart that began with the storage that the watched one saw at the start, and with its registers,
+-- and that made the steps and get the changes of its interrupt lines which are told of these moves
 abbrev pub twin_after : State → WatchOf → List Item → Tally → State
-twin_after start w items t = bare_of (seen start.storage (map_along start.storage items)) (own w.hart items start) t.changes t.count
+twin_after start w items t =
+    bare_of (seen start.storage (map_along start.storage items)) (own w.hart items start) t.changes t.count
 
 abbrev pub twin_at : State → List Move → WatchOf → List Item → ℕ → State
 twin_at start moves w items k = twin_after start w items (tally_at start moves w items k)
@@ -43,9 +44,9 @@ abbrev pub HasRegisters : ℕ → Option ℕ → State → Regs → Type 0
 HasRegisters h None st c = slice_get st.harts h ≡ Some c
 HasRegisters h (Some g) st c = regs_at st.storage g ≡ c
 
--- In the state st the watched machine has the registers of the one hart of the bare machine `bare`, in the bare page where its
--- block stood at the start; and each page that it could read at the start has the words of the bare machine's page. If it is
--- the bare machine itself, all is the same.
+-- In the state st the watched machine has the registers of the one hart of the bare machine `bare`, in the bare page
+-- where its block stood at the start; and each page that it could read at the start has the words of the bare machine's
+-- page. If it is the bare machine itself, all is the same.
 pub record IsAsBare (start : State) (w : WatchOf) (items : List Item) (st bare : State) : Type 0 where
   pub regs : Regs
   pub hart : bare.harts ≡ regs ∷ []
@@ -54,8 +55,8 @@ pub record IsAsBare (start : State) (w : WatchOf) (items : List Item) (st bare :
   pub pages : Agree (map_along start.storage items) st.storage bare.storage
   pub whole : items ≡ [] → st ≡ bare
 
--- A watched machine that stands apart at the start is, at each moment up to which none has touched it, as the bare machine is
--- that runs alone.
+-- A watched machine that stands apart at the start is, at each moment up to which none has touched it, as the bare
+-- machine is that runs alone.
 abbrev pub IsBareRun : State → List Move → WatchOf → Type 0
 IsBareRun start moves w =
     (items : List Item) (k : ℕ)
@@ -77,7 +78,8 @@ GuestsLaw =
     → AreMasked moves
     → AreBareRuns start moves watches
 
--- Whatever start and moves a play stands for that is in this state, its watched machines can't tell, with these moves more.
+-- Whatever start and moves a play stands for that is in this state, its watched machines can't tell, with these moves
+-- more.
 abbrev pub AreBareRunsWith : Played → State → List Move → Type 0
 AreBareRunsWith p here more =
     (start : State) (moves : List Move) (watches : List WatchOf)
@@ -91,12 +93,13 @@ fault_in WorkedKind = None
 fault_in (Recall l) = None
 fault_in (Fault l c address a) = Some record { level = l; cause = c; address = address; access = a }
 
--- The machines on the running path of a hart with the registers r are there. The fault of its step is routed where none of
--- them has a pending interrupt, and else there is no fault.
+-- The machines on the running path of a hart with the registers r are there. The fault of its step is routed where none
+-- of them has a pending interrupt, and else there is no fault.
 pub record IsRoutedFrom (S : List ℕ) (hart : ℕ) (r : Regs) (fault : Option Refusal) : Type 0 where
   pub items : List Item
   pub there : pin_of S (running_path S r) ≡ Some items
-  pub calm : IsTrue (is_calm S items r) → IsRouted S (running_path S r) (map_along S items) (hart_along items hart) (regs_along S items r) fault
+  pub calm : IsTrue (is_calm S items r)
+      → IsRouted S (running_path S r) (map_along S items) (hart_along items hart) (regs_along S items r) fault
   pub busy : IsFalse (is_calm S items r) → fault ≡ None
 
 -- the same of the step of a hart in a state
@@ -104,28 +107,32 @@ abbrev pub IsRoutedIn : State → ℕ → Option Refusal → Type 0
 IsRoutedIn st hart fault = IfSome (slice_get st.harts hart) (λ r. IsRoutedFrom st.storage hart r fault)
 
 -- the fault as it is told
-abbrev pub kind_told : FaultTold → StepKind
-kind_told f = Fault f.receiver f.cause f.address f.access
+abbrev pub fault_kind : FaultRecord → StepKind
+fault_kind f = Fault f.receiver f.cause f.address f.access
 
--- A fault that is told of the moves is that of one of their steps, by its number and its hart, and it is routed as the state
--- before that step says.
-pub record IsRoutedFault (start : State) (moves : List Move) (f : FaultTold) : Type 0 where
+-- A fault that is told of the moves is that of one of their steps, by its number and its hart, and it is routed as the
+-- state before that step says.
+pub record IsRoutedFault (start : State) (moves : List Move) (f : FaultRecord) : Type 0 where
   pub place : ℕ
   pub move : slice_get moves place ≡ Some (StepOf f.hart)
   pub number : f.step ≡ steps_in (take place moves) + 1
-  pub kind : (moved_of (state_at start moves place) f.hart).kind ≡ kind_told f
-  pub routed : IsRoutedIn (state_at start moves place) f.hart (fault_in (kind_told f))
+  pub kind : (moved_of (state_at start moves place) f.hart).kind ≡ fault_kind f
+  pub routed : IsRoutedIn (state_at start moves place) f.hart (fault_in (fault_kind f))
 
-abbrev pub EachFault : (FaultTold → Type 0) → List FaultTold → Type 0
+abbrev pub EachFault : (FaultRecord → Type 0) → List FaultRecord → Type 0
 EachFault P [] = Unit {0}
 EachFault P (f ∷ fs) = P f × EachFault P fs
 
-abbrev pub AreRouted : State → List Move → List FaultTold → Type 0
+abbrev pub AreRouted : State → List Move → List FaultRecord → Type 0
 AreRouted start moves faults = EachFault (IsRoutedFault start moves) faults
+
+-- the same of each fault of the moves from a start
+abbrev pub FaultsAreRouted : State → List Move → Type 0
+FaultsAreRouted start moves = AreRouted start moves (faults_of start moves)
 
 -- faults reach the first refusing level, whatever the start and the moves
 abbrev pub FaultsLaw : Type 0
 FaultsLaw =
     (start : State) (moves : List Move)
     → StaysInside start moves
-    → AreRouted start moves (count_of start moves no_count).faults
+    → FaultsAreRouted start moves

@@ -1,7 +1,6 @@
 -- What is told of a play: over a list of moves from a start, for a list of watches.
-use Rattle.std.specs.Prelude.{ℕ, ◌+◌, ◌-◌, Bool, List, [], ◌∷◌, ◌++◌, length, take, drop, Option, Some, None}
+use Rattle.std.specs.Prelude.{ℕ, ◌+◌, ◌-◌, Bool, List, [], ◌∷◌, ◌++◌, length, take, drop, replicate, Option, Some, None}
 use Rattle.std.specs.List.{flat_map}
-use Rattle.std.specs.Prelude.{replicate}
 use Rattle.hv_limits.specs.Limits.{kept_limit}
 use Rattle.hv_store.specs.declared.access.Access.{Access}
 use Rattle.hv_irq.specs.declared.Event.{Event}
@@ -24,7 +23,7 @@ abbrev pub schedule : List Event → List Move
 schedule events = flat_map moves_of events
 
 -- a fault: the number of its step, from 1 on, the hart that made it, the level that received it, and what it was told
-pub record FaultTold : Type 0 where
+pub record FaultRecord : Type 0 where
   pub step : ℕ
   pub hart : ℕ
   pub receiver : ℕ
@@ -32,10 +31,14 @@ pub record FaultTold : Type 0 where
   pub address : ℕ
   pub access : Access
 
+abbrev pub fault_record : ℕ → ℕ → ℕ → ℕ → ℕ → Access → FaultRecord
+fault_record step hart l cause address a =
+    record { step = step; hart = hart; receiver = l; cause = cause; address = address; access = a }
+
 -- the steps so far, their faults in order, and how many of them were recalls
 pub record Count : Type 0 where
   pub steps : ℕ
-  pub faults : List FaultTold
+  pub faults : List FaultRecord
   pub recalls : ℕ
 
 abbrev pub no_count : Count
@@ -46,7 +49,7 @@ kind_counted c hart WorkedKind = record c { steps = c.steps + 1 }
 kind_counted c hart (Recall l) = record c { steps = c.steps + 1; recalls = c.recalls + 1 }
 kind_counted c hart (Fault l cause address a) = record c {
   steps = c.steps + 1;
-  faults = c.faults ++ record { step = c.steps + 1; hart = hart; receiver = l; cause = cause; address = address; access = a } ∷ [];
+  faults = c.faults ++ fault_record (c.steps + 1) hart l cause address a ∷ [];
 }
 
 abbrev pub count_after : State → Move → Count → Count
@@ -56,6 +59,10 @@ count_after st (LinesOf hart mask) c = c
 unfoldable pub count_of : State → List Move → Count → Count
 count_of st [] c = c
 count_of st (move ∷ moves) c = count_of (state_after st move) moves (count_after st move c)
+
+-- all faults of the moves from a start, in order
+abbrev pub faults_of : State → List Move → List FaultRecord
+faults_of start moves = (count_of start moves no_count).faults
 
 -- the last of a list, as many as are kept
 abbrev pub last_kept : {X : Type 0} → List X → List X
@@ -67,7 +74,7 @@ pub record WatchOf : Type 0 where
   pub path : List ℕ
 
 -- what is told of a watch
-pub record WatchTold : Type 0 where
+pub record WatchRecord : Type 0 where
   pub hart : ℕ
   pub path : List ℕ
   pub block : Option ℕ
@@ -78,8 +85,8 @@ pub record WatchTold : Type 0 where
   pub line_total : ℕ
   pub lines : List LineChange
 
-abbrev pub told_by : WatchOf → State → List Item → Tally → WatchTold
-told_by w start items t = record {
+abbrev pub watch_record : WatchOf → State → List Item → Tally → WatchRecord
+watch_record w start items t = record {
   hart = w.hart;
   path = w.path;
   block = last_block items;
@@ -92,24 +99,30 @@ told_by w start items t = record {
 }
 
 -- where the machine is there at the start, which it is for each watch
-abbrev pub told_at : WatchOf → State → List Move → Option (List Item) → List WatchTold
-told_at w start moves None = []
-told_at w start moves (Some items) =
-    told_by w start items (tally_of w.hart w.path items (foot start.storage items) start moves no_tally) ∷ []
+abbrev pub watch_records : WatchOf → State → List Move → Option (List Item) → List WatchRecord
+watch_records w start moves None = []
+watch_records w start moves (Some items) =
+    watch_record w start items (tally_of w.hart w.path items (foot start.storage items) start moves no_tally) ∷ []
 
 -- all that is told of a play
-pub record Told : Type 0 where
+pub record PlayRecord : Type 0 where
   pub steps : ℕ
   pub faults : ℕ
   pub recalls : ℕ
-  pub kept : List FaultTold
-  pub watches : List WatchTold
+  pub kept : List FaultRecord
+  pub watches : List WatchRecord
 
-abbrev pub told_of_count : Count → List WatchTold → Told
-told_of_count c watches = record { steps = c.steps; faults = length c.faults; recalls = c.recalls; kept = last_kept c.faults; watches = watches }
+abbrev pub count_record : Count → List WatchRecord → PlayRecord
+count_record c watches = record {
+  steps = c.steps;
+  faults = length c.faults;
+  recalls = c.recalls;
+  kept = last_kept c.faults;
+  watches = watches;
+}
 
 -- what is told of the moves from a start, for the watches
-unfoldable pub record_of : State → List Move → List WatchOf → Told
+unfoldable pub record_of : State → List Move → List WatchOf → PlayRecord
 record_of start moves watches =
-    told_of_count (count_of start moves no_count)
-    (flat_map (λ (w : WatchOf). told_at w start moves (pin_of start.storage w.path)) watches)
+    count_record (count_of start moves no_count)
+    (flat_map (λ (w : WatchOf). watch_records w start moves (pin_of start.storage w.path)) watches)

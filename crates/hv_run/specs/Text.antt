@@ -1,31 +1,11 @@
 -- The text of machines and faults, as bytes. Each line ends in a line feed.
-use Rattle.std.specs.Prelude.{ℕ, ◌+◌, ◌*◌, nat_lt, if◌then◌else◌, List, [], ◌∷◌, ◌++◌, take, drop, slice_index, codes}
+use Rattle.std.specs.Prelude.{ℕ, List, ◌++◌, take, drop, slice_index, codes}
 use Rattle.std.specs.List.{flat_map}
 use Rattle.std.specs.Fmt.{decimal}
-use Rattle.hv_word.specs.Words.{field_of}
+use Rattle.hv_text.specs.Text.{line, hex8, words_text}
 use Rattle.hv_block.specs.Block.{access_word}
 use Rattle.hv_nest.specs.Watched.{LineChange}
-use Rattle.hv_run.specs.Record.{FaultTold}
-
--- a line of this text
-abbrev pub line : List ℕ → List ℕ
-line text = text ++ 10 ∷ []
-
--- a digit, 0 to 9 and a to f
-abbrev pub hex_digit : ℕ → ℕ
-hex_digit d = if nat_lt d 10 then 48 + d else 87 + d
-
--- digit i of a word, counted from its low end
-abbrev pub hex_at : ℕ → ℕ → ℕ
-hex_at word i = hex_digit (field_of word (4 * i) 4)
-
--- a word as eight digits
-unfoldable pub hex8 : ℕ → List ℕ
-hex8 word = hex_at word 7 ∷ hex_at word 6 ∷ hex_at word 5 ∷ hex_at word 4 ∷ hex_at word 3 ∷ hex_at word 2 ∷ hex_at word 1 ∷ hex_at word 0 ∷ []
-
--- each word behind a space
-unfoldable pub words_text : List ℕ → List ℕ
-words_text words = flat_map (λ word. 32 ∷ hex8 word) words
+use Rattle.hv_run.specs.Record.{FaultRecord}
 
 -- a label, and the words behind it
 abbrev pub row_text : List ℕ → List ℕ → List ℕ
@@ -33,14 +13,16 @@ row_text label words = line (label ++ words_text words)
 
 -- the program counter, the mode as a number, and the page of the machine that is run, 0 where there is none
 abbrev pub state_line : ℕ → ℕ → ℕ → List ℕ
-state_line pc mode next = line (codes "pc " ++ hex8 pc ++ codes " mode " ++ decimal mode ++ codes " next " ++ decimal next)
+state_line pc mode next =
+    line (codes "pc " ++ hex8 pc ++ codes " mode " ++ decimal mode ++ codes " next " ++ decimal next)
 
 -- `count` of the words from place `at` on
 abbrev pub part : List ℕ → ℕ → ℕ → List ℕ
 part words at count = take count (drop at words)
 
 -- The lines of a machine's 50 words: pc, x1 to x31, the mode, mstatus, mtvec, mepc, mcause, mtval, mscratch, medeleg,
--- mideleg, mie, mip, stvec, sepc, scause, stval, sscratch, satp, and the page of the machine that it runs. x0 is always 0.
+-- mideleg, mie, mip, stvec, sepc, scause, stval, sscratch, satp, and the page of the machine that it runs. x0 is always
+-- 0.
 unfoldable pub register_lines : List ℕ → List ℕ
 register_lines words =
     state_line (slice_index words 0) (slice_index words 32) (slice_index words 49)
@@ -65,7 +47,7 @@ machine_lines count words changes =
 
 -- The line of a fault: the number of its step, the hart that made it, the level that received it, and what it was told:
 -- cause, address, and the access as 1 for reading, 2 for writing, 3 for fetching.
-unfoldable pub fault_line : FaultTold → List ℕ
+unfoldable pub fault_line : FaultRecord → List ℕ
 fault_line f =
     line
     (codes "fault " ++ decimal f.step

@@ -1,4 +1,4 @@
-//! The numbers of a play.
+//! What a play counts.
 
 ghost use Rattle.std.specs.Prelude.{◌≡◌, ◌≤◌, ◌<◌, ◌+◌, ◌^◌, [], IfOk};
 ghost use Rattle.hv_run.specs.Play.{kind_after, counts_after, CountsWithin};
@@ -6,9 +6,17 @@ ghost use Rattle.hv_run.specs.Play.{kind_after, counts_after, CountsWithin};
 use crate::fault::FaultRow;
 use crate::faults::Faults;
 use crate::happened::Happened;
-use crate::numbers::Counts;
 use hv_nest::StepKind;
 use std::alloc::{AllocError, Global};
+
+/// The numbers of steps, faults and recalls of a play, and its last faults.
+#[derive(Drop)]
+pub(crate) struct Counts {
+    pub(crate) steps: u64,
+    pub(crate) faults: u64,
+    pub(crate) recalls: u64,
+    pub(crate) kept: Faults,
+}
 
 impl Counts {
     /// Of no step, with room for the faults that are kept.
@@ -25,6 +33,7 @@ impl Counts {
     }
 
     /// Counts what a move did.
+    #[inline(always)]
     pub(crate) fn tell(&mut self, happened: &Happened)
         requires { CountsWithin (2 ^ 62) self.old }
         ensures counts { self.new ≡ counts_after self.old happened.now }
@@ -39,6 +48,7 @@ impl Counts {
     }
 
     // Counts a step.
+    #[inline(always)]
     fn count(&mut self, hart: u32, kind: StepKind)
         requires { CountsWithin (2 ^ 62) self.old }
         ensures counts { self.new ≡ kind_after self.old hart kind }

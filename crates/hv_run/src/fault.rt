@@ -18,9 +18,9 @@ pub struct FaultRow {
 }
 
 impl Model for FaultRow {
-    ghost use Rattle.hv_run.specs.Record.{FaultTold};
+    ghost use Rattle.hv_run.specs.Record.{FaultRecord};
 
-    ghost Value = { FaultTold };
+    ghost Value = { FaultRecord };
 
     ghost view = { λ f. record {
       step = f.step;

@@ -18,10 +18,10 @@ pub(crate) struct Faults {
 
 impl Model for Faults {
     ghost use Rattle.std.specs.Prelude.{◌≡◌, ◌<◌, ◌≤◌, List, ◌++◌, length, take, drop, vec_capacity};
-    ghost use Rattle.hv_run.specs.Record.{FaultTold};
+    ghost use Rattle.hv_run.specs.Record.{FaultRecord};
     ghost use Rattle.hv_limits.specs.Limits.{kept_limit};
 
-    ghost Value = { List FaultTold };
+    ghost Value = { List FaultRecord };
 
     ghost view = { λ f. drop f.oldest f.rows.items ++ take f.oldest f.rows.items };
 

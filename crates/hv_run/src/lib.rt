@@ -7,10 +7,8 @@ mod faults;
 mod happened;
 pub mod laws;
 mod moving;
-mod numbers;
 mod playing;
 mod record;
-mod rows;
 mod starting;
 mod text;
 mod watched;
@@ -19,8 +17,7 @@ pub use fault::FaultRow;
 pub use moving::Play;
 pub use playing::play;
 pub use record::{Record, WatchRow};
-pub use rows::Rows;
-pub use text::{fault_line, hex_digit, machine_lines, put, put_decimal, put_hex8, register_lines};
+pub use text::{fault_line, machine_lines, register_lines};
 
 #[cfg(test)]
 mod tests;

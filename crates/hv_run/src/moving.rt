@@ -2,23 +2,22 @@
 
 ghost use Rattle.std.specs.Prelude.{◌≡◌, ◌≢◌, ◌≤◌, ◌+◌, ◌<◌, ◌^◌, ◌-◌, [], ◌∷◌, IfOk, Some, bit_and, length, replicate, slice_get, vec_capacity};
 ghost use Rattle.hv_limits.specs.Limits.{lines_mask};
-ghost use Rattle.hv_nest.specs.Changes.{TellsChanges};
+ghost use Rattle.hv_nest.specs.Changes.{differences};
 ghost use Rattle.hv_nest.specs.Move.{StepOf, LinesOf, moved_of, lined_state, last_of, running_of};
 ghost use Rattle.hv_irq.specs.Events.{hart_of, mask_of, steps_of};
-ghost use Rattle.hv_run.specs.Fits.{FitsRows};
-ghost use Rattle.hv_run.specs.Play.{all_after, played_after, rows_told, told_of, TellsWithin};
+ghost use Rattle.hv_run.specs.Play.{all_after, played_after, all_so_far, play_record, TellsWithin};
 ghost use Rattle.hv_run.specs.Promises.{AreBareRunsWith, IsRoutedIn, fault_in};
 ghost use Rattle.hv_run.specs.Record.{moves_of};
 ghost use Rattle.hv_run.specs.Stands.{CanWatch, EachNew, Follows, StandsFor, watches_of};
 
 use crate::fault::FaultRow;
 use crate::happened::Happened;
-use crate::numbers::Counts;
+use crate::counts::Counts;
 use crate::record::{Record, WatchRow};
-use crate::rows::Rows;
 use crate::starting::start;
 use crate::watched::Watched;
 use hv_irq::Event;
+use hv_list::Items;
 use hv_map::{Path, Watch};
 use hv_nest::{Nested, Outcome};
 use std::alloc::{AllocError, Global};
@@ -48,14 +47,13 @@ impl Model for Play {
 
 impl Play {
     /// A play that has made no move yet, from the engine's present state, with all the memory that it needs. Each watch's
-    /// machine is there with at most 16384 pages, and the bare machine is watched only where it has one hart.
+    /// machine is there with at most `PAGES` pages, and the bare machine is watched only where it has one hart.
     pub fn new<N: Nested>(
         alloc: Global,
         nested: &mut N,
         watches: &[Watch],
     ) -> Result<Play, AllocError>
         requires watches { CanWatch (N.state nested.old) (watches_of watches.now) }
-        requires number { length watches.now ≤ 16 }
         ensures stands { IfOk result (λ p. StandsFor p (N.state nested.old) [] (watches_of watches.now)) }
         ensures calls { IfOk result (λ p. p.calls ≡ 0) }
         ensures same { N.state nested.new ≡ N.state nested.old }
@@ -78,7 +76,7 @@ impl Play {
         requires hart { hart < length (N.state nested.old).harts }
         requires calls { self.old.calls < 2 ^ 62 }
         ensures moves { record { kind = result.kind; state = N.state nested.new } ≡ moved_of (N.state nested.old) hart }
-        ensures changed { TellsChanges (N.state nested.old).storage (N.state nested.new).storage result.changed }
+        ensures changed { result.changed ≡ differences (N.state nested.old).storage (N.state nested.new).storage }
         ensures calls { self.new.calls ≡ self.old.calls + 1 }
         ensures harts { length (N.state nested.new).harts ≡ length (N.state nested.old).harts }
         ensures stands { Follows self.old (N.state nested.old) self.new (N.state nested.new) (StepOf hart ∷ []) }
@@ -120,24 +118,24 @@ impl Play {
         self.calls
     }
 
-    /// How many faults are kept: the last 1024.
+    /// How many faults are kept: the last `KEPT`.
     pub fn kept_len(&self) -> u32
-        ensures { result ≡ length (told_of self.now).kept }
+        ensures { result ≡ length (play_record self.now).kept }
     {
         self.counts.kept.len() as u32
     }
 
     /// Fault `i` of those that are kept, in order.
     pub fn kept(&self, i: u32) -> FaultRow
-        requires { i < length (told_of self.now).kept }
-        ensures { slice_get (told_of self.now).kept i ≡ Some result }
+        requires { i < length (play_record self.now).kept }
+        ensures { slice_get (play_record self.now).kept i ≡ Some result }
     {
         self.counts.kept.get(i as usize)
     }
 
     /// What is told of the play.
     pub fn finish(self) -> Record
-        ensures { result ≡ told_of self }
+        ensures { result ≡ play_record self }
     {
         let Play {
             calls: _,
@@ -149,8 +147,8 @@ impl Play {
             steps: counts.steps,
             faults: counts.faults,
             recalls: counts.recalls,
-            kept: Rows::new(counts.kept.into_vec()),
-            watches: Rows::new(rows_of(watched, rows)),
+            kept: Items::new(counts.kept.into_vec()),
+            watches: Items::new(watch_rows(watched, rows)),
         }
     }
 
@@ -196,8 +194,8 @@ impl Play {
     }
 
     // Tells a move, after which the engine is as it is now.
+    #[inline(always)]
     fn tell<N: Nested>(&mut self, nested: &N, happened: &Happened)
-        requires fits { FitsRows happened.now }
         requires calls { self.old.calls < 2 ^ 62 }
         ensures { self.new ≡ played_after happened.now (N.state nested.now) self.old }
     {
@@ -208,8 +206,8 @@ impl Play {
 }
 
 // Tells a move to each watch.
+#[inline(always)]
 fn tell_all<N: Nested>(watched: &mut [Watched], nested: &N, happened: &Happened)
-    requires fits { FitsRows happened.now }
     requires room { TellsWithin (2 ^ 62 - 1) watched.old }
     ensures { watched.new ≡ all_after happened.now (N.state nested.now) watched.old }
 {
@@ -236,10 +234,10 @@ fn start_all<N: Nested>(
 }
 
 // What is told of the watches, in a `Vec` that has room for it.
-fn rows_of(watched: Vec<Watched>, rows: Vec<WatchRow>) -> Vec<WatchRow>
+fn watch_rows(watched: Vec<Watched>, rows: Vec<WatchRow>) -> Vec<WatchRow>
     requires none { rows.items ≡ [] }
     requires room { length watched.items ≤ vec_capacity rows }
-    ensures { result.items ≡ rows_told watched.items }
+    ensures { result.items ≡ all_so_far watched.items }
 {
     let mut rows = rows;
     for one in watched {

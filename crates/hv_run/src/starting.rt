@@ -1,17 +1,14 @@
 //! A watch at the start of a play.
 
-ghost use Rattle.std.specs.Prelude.{◌≡◌, ◌≤◌, ◌-◌, ◌<◌, [], Some, IfOk, length, map, slice_get};
-ghost use Rattle.std.specs.Option.{option_map};
+ghost use Rattle.std.specs.Prelude.{◌≡◌, Some, IfOk, map};
 ghost use Rattle.hv_map.specs.Chain.{pin_of};
-ghost use Rattle.hv_limits.specs.Limits.{depth_limit};
 ghost use Rattle.hv_map.specs.Links.{syllable_of};
-ghost use Rattle.hv_nest.specs.Watched.{last_block, no_tally};
 ghost use Rattle.hv_run.specs.Stands.{IsNew, IsWatchable, NewAt, watch_of};
 
 use crate::watched::{Watched, status_of};
 use hv_apart::{Footing, apart, one_to_one};
 use hv_limits::KEPT;
-use hv_map::{Chain, Path, Watch, pin};
+use hv_map::{Chain, Watch, pin};
 use hv_nest::Nested;
 use std::alloc::{AllocError, Global};
 
@@ -42,12 +39,12 @@ fn start_on<N: Nested>(
 {
     let store = nested.parked();
     let _pages = store.pages();
-    let block = last_block(chain);
+    let block = chain.last_block();
     let foot = Footing::new(alloc, store, chain)?;
     let lines = Vec::with_capacity(alloc, KEPT)?;
     Ok(Watched {
         hart: watch.hart,
-        path: same_path(&watch.path),
+        path: watch.path.copied(),
         block,
         one: one_to_one(store, chain),
         apart: apart(store, chain),
@@ -58,28 +55,4 @@ fn start_on<N: Nested>(
         foot,
         status: status_of(nested, watch.hart, block),
     })
-}
-
-// The bare page of the last machine's block, none for the bare machine.
-fn last_block(chain: &Chain) -> Option<u32>
-    ensures { result ≡ last_block chain.now }
-{
-    let len = chain.len();
-    if len == 0 {
-        None
-    } else {
-        Some(chain.item(len - 1).block)
-    }
-}
-
-// The same path.
-fn same_path(path: &Path) -> Path
-    ensures same { result ≡ path.now }
-    ensures short { length path.now ≤ depth_limit }
-{
-    let mut same = Path::new();
-    for syllable in path.as_slice() {
-        same.push(*syllable);
-    }
-    same
 }

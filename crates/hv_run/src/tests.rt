@@ -1,7 +1,8 @@
 //! What no clause says: the texts as they are read, and each call once.
 
-use crate::{FaultRow, Play, Record, Rows, fault_line, machine_lines, play, register_lines};
+use crate::{FaultRow, Play, Record, fault_line, machine_lines, play, register_lines};
 use hv_irq::Event;
+use hv_limits::PAGES;
 use hv_map::{Path, Watch, pin};
 use hv_nest::{Harts, LineRow, Nested, Plain};
 use hv_store::{Access, Store};
@@ -70,14 +71,6 @@ fn writes_a_fault(rt: HostRuntime) -> Result<(), Fail> {
     Ok(())
 }
 
-#[test]
-fn rows_give_back_their_list(rt: HostRuntime) -> Result<(), Fail> {
-    let rows = Rows::new(vec![in rt.alloc(); 3u32, 4]?);
-    assert_eq!(rt; rows.as_slice(), [3, 4].as_slice());
-    assert_eq!(rt; rows.into_vec().as_slice(), [3, 4].as_slice());
-    Ok(())
-}
-
 // Writes words from a place on, as far as the storage goes.
 fn lay(store: &mut Store, from: u32, words: &[u32]) {
     let mut at = from;
@@ -121,7 +114,7 @@ fn play_changed_entry(alloc: Global, store: Store) -> Result<Option<Record>, All
     let Some(chain) = pin(&store, &path) else {
         return Ok(None);
     };
-    if chain.pages(&store) > 16384 {
+    if chain.pages(&store) > PAGES {
         return Ok(None);
     }
     let mut plain = Plain::new(store, Harts::new(2));
@@ -201,7 +194,7 @@ fn play_seen_block(alloc: Global, store: Store) -> Result<Option<Record>, AllocE
     let Some(chain) = pin(&store, &path) else {
         return Ok(None);
     };
-    if chain.pages(&store) > 16384 {
+    if chain.pages(&store) > PAGES {
         return Ok(None);
     }
     let mut plain = Plain::new(store, Harts::new(1));

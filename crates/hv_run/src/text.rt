@@ -1,14 +1,13 @@
 //! The text of machines and faults.
 
-ghost use Rattle.std.specs.Prelude.{◌≡◌, ◌<◌, ◌++◌, IfOk, OnOk};
-ghost use Rattle.std.specs.Fmt.{decimal};
+ghost use Rattle.std.specs.Prelude.{◌≡◌, ◌++◌, IfOk, OnOk};
 ghost use Rattle.hv_block.specs.Block.{access_word};
-ghost use Rattle.hv_run.specs.Text.{change_line, changes_text, fault_line as fault_line_of, hex_digit as hex_digit_of, hex8, machine_lines as machine_lines_of, register_lines as register_lines_of, row_text, state_line, words_text};
+ghost use Rattle.hv_run.specs.Text.{change_line, changes_text, fault_line as fault_line_of, machine_lines as machine_lines_of, register_lines as register_lines_of, row_text, state_line};
 
 use crate::fault::FaultRow;
 use hv_nest::LineRow;
 use hv_store::Access;
-use hv_word::field;
+use hv_text::{put, put_hex8, put_number, put_words};
 use std::alloc::{AllocError, Global};
 
 /// The lines of a watched machine after `count` steps: its 50 words, which are those of its control block from 0 to 48 and
@@ -23,12 +22,11 @@ pub fn machine_lines(
     ensures { IfOk result (λ text. text.items ≡ machine_lines_of count cpu_words.now lines.now) }
 {
     let mut out = Vec::new(alloc);
-    put(&mut out, b"count ")?;
-    put_decimal(alloc, &mut out, count)?;
+    put_number(&mut out, b"count ", count)?;
     put(&mut out, b"\n")?;
     let registers = register_lines(alloc, cpu_words)?;
     put(&mut out, &registers)?;
-    put_changes(alloc, &mut out, lines)?;
+    put_changes(&mut out, lines)?;
     Ok(out)
 }
 
@@ -38,7 +36,7 @@ pub fn register_lines(alloc: Global, cpu_words: &[u32; 50]) -> Result<Vec<u8>, A
     ensures { IfOk result (λ text. text.items ≡ register_lines_of cpu_words.now) }
 {
     let mut out = Vec::new(alloc);
-    put_state(alloc, &mut out, cpu_words[0], cpu_words[32], cpu_words[49])?;
+    put_state(&mut out, cpu_words[0], cpu_words[32], cpu_words[49])?;
     put_row(&mut out, b"x0 00000000", &cpu_words[1..8])?;
     put_row(&mut out, b"x8", &cpu_words[8..16])?;
     put_row(&mut out, b"x16", &cpu_words[16..24])?;
@@ -54,20 +52,19 @@ pub fn fault_line(alloc: Global, row: &FaultRow) -> Result<Vec<u8>, AllocError>
     ensures { IfOk result (λ text. text.items ≡ fault_line_of row.now) }
 {
     let mut out = Vec::new(alloc);
-    put(&mut out, b"fault ")?;
-    put_decimal(alloc, &mut out, row.step)?;
-    put_field(alloc, &mut out, b" hart ", row.hart)?;
-    put_field(alloc, &mut out, b" level ", row.receiver)?;
-    put_field(alloc, &mut out, b" cause ", row.cause)?;
+    put_number(&mut out, b"fault ", row.step)?;
+    put_number(&mut out, b" hart ", u64::from(row.hart))?;
+    put_number(&mut out, b" level ", u64::from(row.receiver))?;
+    put_number(&mut out, b" cause ", u64::from(row.cause))?;
     put(&mut out, b" address ")?;
     put_hex8(&mut out, row.address)?;
-    put_field(alloc, &mut out, b" access ", access_number(row.access))?;
+    put_number(&mut out, b" access ", access_number(row.access))?;
     put(&mut out, b"\n")?;
     Ok(out)
 }
 
 // An access as it is spelled.
-fn access_number(access: Access) -> u32
+fn access_number(access: Access) -> u64
     ensures { result ≡ access_word access }
 {
     match access {
@@ -77,30 +74,14 @@ fn access_number(access: Access) -> u32
     }
 }
 
-// Appends a label and a number in decimal digits.
-fn put_field(alloc: Global, out: &mut Vec<u8>, label: &[u8], number: u32) -> Result<(), AllocError>
-    ensures { OnOk result (out.new.items ≡ out.old.items ++ (label.now ++ decimal number)) }
-{
-    put(out, label)?;
-    put_decimal(alloc, out, u64::from(number))
-}
-
 // Appends the line of the program counter, the mode and the page of the machine that is run.
-fn put_state(
-    alloc: Global,
-    out: &mut Vec<u8>,
-    pc: u32,
-    mode: u32,
-    next: u32,
-) -> Result<(), AllocError>
+fn put_state(out: &mut Vec<u8>, pc: u32, mode: u32, next: u32) -> Result<(), AllocError>
     ensures { OnOk result (out.new.items ≡ out.old.items ++ state_line pc mode next) }
 {
     put(out, b"pc ")?;
     put_hex8(out, pc)?;
-    put(out, b" mode ")?;
-    put_decimal(alloc, out, u64::from(mode))?;
-    put(out, b" next ")?;
-    put_decimal(alloc, out, u64::from(next))?;
+    put_number(out, b" mode ", u64::from(mode))?;
+    put_number(out, b" next ", u64::from(next))?;
     put(out, b"\n")
 }
 
@@ -113,81 +94,23 @@ fn put_row(out: &mut Vec<u8>, label: &[u8], words: &[u32]) -> Result<(), AllocEr
     put(out, b"\n")
 }
 
-// Appends the words, each behind a space.
-#[tactic(auto, unfolding(crate::specs::Text::words_text))]
-fn put_words(out: &mut Vec<u8>, words: &[u32]) -> Result<(), AllocError>
-    ensures { OnOk result (out.new.items ≡ out.old.items ++ words_text words.now) }
-{
-    for word in words {
-        put(out, b" ")?;
-        put_hex8(out, *word)?;
-    }
-    Ok(())
-}
-
 // Appends a line for each change.
 #[tactic(auto, unfolding(crate::specs::Text::changes_text))]
-fn put_changes(alloc: Global, out: &mut Vec<u8>, rows: &[LineRow]) -> Result<(), AllocError>
+fn put_changes(out: &mut Vec<u8>, rows: &[LineRow]) -> Result<(), AllocError>
     ensures { OnOk result (out.new.items ≡ out.old.items ++ changes_text rows.now) }
 {
     for row in rows {
-        put_change(alloc, out, row)?;
+        put_change(out, row)?;
     }
     Ok(())
 }
 
 // Appends the line of a change.
-fn put_change(alloc: Global, out: &mut Vec<u8>, row: &LineRow) -> Result<(), AllocError>
+fn put_change(out: &mut Vec<u8>, row: &LineRow) -> Result<(), AllocError>
     ensures { OnOk result (out.new.items ≡ out.old.items ++ change_line row.now) }
 {
-    put(out, b"line ")?;
-    put_decimal(alloc, out, row.count)?;
+    put_number(out, b"line ", row.count)?;
     put(out, b" ")?;
     put_hex8(out, row.bits)?;
     put(out, b"\n")
-}
-
-/// Appends a word as eight digits.
-#[tactic(auto, unfolding(crate::specs::Text::hex8))]
-pub fn put_hex8(out: &mut Vec<u8>, word: u32) -> Result<(), AllocError>
-    ensures { OnOk result (out.new.items ≡ out.old.items ++ hex8 word) }
-{
-    let digits = [
-        hex_digit(field::<28, 4>(word)),
-        hex_digit(field::<24, 4>(word)),
-        hex_digit(field::<20, 4>(word)),
-        hex_digit(field::<16, 4>(word)),
-        hex_digit(field::<12, 4>(word)),
-        hex_digit(field::<8, 4>(word)),
-        hex_digit(field::<4, 4>(word)),
-        hex_digit(field::<0, 4>(word)),
-    ];
-    put(out, &digits)
-}
-
-/// A digit, 0 to 9 and a to f.
-pub fn hex_digit(value: u32) -> u8
-    requires { value < 16 }
-    ensures { result ≡ hex_digit_of value }
-{
-    if value < 10 {
-        b'0' + value as u8
-    } else {
-        b'a' - 10 + value as u8
-    }
-}
-
-/// Appends a number in decimal digits.
-pub fn put_decimal(alloc: Global, out: &mut Vec<u8>, number: u64) -> Result<(), AllocError>
-    ensures { OnOk result (out.new.items ≡ out.old.items ++ decimal number) }
-{
-    let digits = number.to_string(alloc)?;
-    put(out, digits.as_bytes())
-}
-
-/// Appends a text.
-pub fn put(out: &mut Vec<u8>, text: &[u8]) -> Result<(), AllocError>
-    ensures { OnOk result (out.new.items ≡ out.old.items ++ text.now) }
-{
-    out.extend_from_slice(text)
 }

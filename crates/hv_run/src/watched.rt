@@ -5,15 +5,14 @@ ghost use Rattle.hv_word.specs.Storage.{word_at};
 ghost use Rattle.hv_map.specs.Apart.{is_one, is_apart};
 ghost use Rattle.hv_map.specs.Chain.{map_along};
 ghost use Rattle.hv_nest.specs.Watched.{foot, is_outside, last_block};
-ghost use Rattle.hv_run.specs.Play.{any_marked, counts_for, rows_of, status_at, status_differs, touches, watched_after, watching_after, watching_beside};
-ghost use Rattle.hv_run.specs.Fits.{FitsRows};
+ghost use Rattle.hv_run.specs.Play.{any_marked, counts_for, changes_in, status_at, status_differs, touches, watched_after, watching_after, watching_beside};
 ghost use Rattle.hv_limits.specs.Limits.{kept_limit};
 
 use crate::happened::Happened;
 use crate::record::WatchRow;
-use crate::rows::Rows;
 use hv_apart::Footing;
 use hv_limits::{KEPT, LINES};
+use hv_list::Items;
 use hv_map::{Chain, Path};
 use hv_nest::{Changed, LineRow, Nested, StepKind};
 use hv_store::Store;
@@ -46,7 +45,7 @@ impl Model for Watched {
     ghost Value = { Watching };
 
     ghost view = { λ w. record {
-      told = record {
+      so_far = record {
         hart = w.hart;
         path = w.path;
         block = w.block;
@@ -67,7 +66,7 @@ impl Model for Watched {
 impl Watched {
     /// What is told of the watch.
     pub(crate) fn into_row(self) -> WatchRow
-        ensures { result ≡ self.told }
+        ensures { result ≡ self.so_far }
     {
         WatchRow {
             hart: self.hart,
@@ -78,21 +77,22 @@ impl Watched {
             touched: self.touched,
             count: self.count,
             line_total: self.line_total,
-            lines: Rows::new(self.lines),
+            lines: Items::new(self.lines),
         }
     }
 
     // The word with the machine's interrupt lines, as the engine has it now.
     fn status_now<N: Nested>(&self, nested: &N) -> u32
-        ensures { result ≡ status_at self.now.told.hart self.now.told.block (N.state nested.now) }
+        ensures { result ≡ status_at self.now.so_far.hart self.now.so_far.block (N.state nested.now) }
     {
         status_of(nested, self.hart, self.block)
     }
 
     // Whether a move counts for the watch.
+    #[inline(always)]
     #[tactic(auto, using(crate::proofs::Begins::starts_begins))]
     fn counts(&self, happened: &Happened) -> bool
-        ensures { result ≡ counts_for self.now.told happened.now }
+        ensures { result ≡ counts_for self.now.so_far happened.now }
     {
         match happened {
             Happened::Stepped {
@@ -111,17 +111,16 @@ impl Watched {
 
     // Whether a move, after which the word with the lines is `status`, changed a word of the machine's foot.
     fn touches(&self, happened: &Happened, status: u32) -> bool
-        requires { FitsRows happened.now }
         ensures { result ≡ touches self.now happened.now status }
     {
         any_marked(&self.foot, happened) || status_differs(self.block, self.status, status)
     }
 
     // Tells a move, after which the word with the lines is `status`.
+    #[inline(always)]
     fn note(&mut self, happened: &Happened, status: u32)
-        requires fits { FitsRows happened.now }
-        requires count { self.old.told.count < 2 ^ 62 }
-        requires total { self.old.told.line_total < 2 ^ 62 }
+        requires count { self.old.so_far.count < 2 ^ 62 }
+        requires total { self.old.so_far.line_total < 2 ^ 62 }
         ensures { self.new ≡ watching_after happened.now status self.old }
     {
         if self.counts(happened) {
@@ -135,7 +134,7 @@ impl Watched {
 
     // Tells a move that doesn't count: whether it touches the machine, and the word with the lines after it.
     fn note_beside(&mut self, touches: bool, status: u32)
-        requires { self.old.told.line_total < 2 ^ 62 }
+        requires { self.old.so_far.line_total < 2 ^ 62 }
         ensures { self.new ≡ watching_beside touches status self.old }
     {
         let bits = status & LINES;
@@ -156,10 +155,10 @@ impl Watched {
     }
 
     /// Tells a move, after which the engine is as it is now.
+    #[inline(always)]
     pub(crate) fn tell<N: Nested>(&mut self, nested: &N, happened: &Happened)
-        requires fits { FitsRows happened.now }
-        requires count { self.old.told.count < 2 ^ 62 }
-        requires total { self.old.told.line_total < 2 ^ 62 }
+        requires count { self.old.so_far.count < 2 ^ 62 }
+        requires total { self.old.so_far.line_total < 2 ^ 62 }
         ensures { self.new ≡ watched_after happened.now (N.state nested.now) self.old }
     {
         let status = self.status_now(nested);
@@ -195,7 +194,7 @@ pub(crate) fn status_of<N: Nested>(nested: &N, hart: u32, block: Option<u32>) ->
         Some(page) => word_at(nested.parked(), page),
         None => {
             if hart < nested.harts() {
-                nested.cpu(hart).mip
+                nested.mip(hart)
             } else {
                 0
             }
@@ -223,9 +222,9 @@ fn status_differs(block: Option<u32>, old: u32, new: u32) -> bool
 }
 
 // Whether a move changed a word that the foot has.
+#[inline(always)]
 fn any_marked(foot: &Footing, happened: &Happened) -> bool
-    requires { FitsRows happened.now }
-    ensures { result ≡ any_marked foot.now (rows_of happened.now) }
+    ensures { result ≡ any_marked foot.now (changes_in happened.now) }
 {
     let Happened::Stepped { changed, .. } = happened else {
         return false;
@@ -234,11 +233,11 @@ fn any_marked(foot: &Footing, happened: &Happened) -> bool
 }
 
 // Whether one of the words that changed is in the foot.
+#[inline(always)]
 fn any_changed(foot: &Footing, changed: &Changed) -> bool
-    requires { changed.now.len ≤ 8 }
-    ensures { result ≡ any_marked foot.now (take changed.now.len changed.now.rows) }
+    ensures { result ≡ any_marked foot.now changed.now }
 {
-    for row in &changed.rows[..changed.len as usize] {
+    for row in changed.as_slice() {
         if foot.holds(row.at) {
             return true;
         }

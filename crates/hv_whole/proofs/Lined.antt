@@ -1,6 +1,6 @@
 -- The interrupt lines of a word, and the rest of it.
 use Rattle.std.proofs.Common.{◌≡◌, ℕ, zero, suc, ◌+◌, ◌-◌, ◌^◌, ◌<◌, ◌≤◌, ap, ◌∙◌, sym, arith, bit_and, bit_or, lit<}
-use Rattle.std.specs.Int.Bits.{or_add_and, and_zero_r, and_comm}
+use Rattle.std.specs.Int.Bits.{or_add_and, and_self, and_zero_r, and_comm}
 use Rattle.std.proofs.Math.Nat.{pow-suc}
 use Rattle.std.proofs.lemmas.Nat.{and_le_l, and-not, or_disjoint}
 use Rattle.hv_cpu.specs.Lines.{lines, unlined, relined}
@@ -9,7 +9,7 @@ use Rattle.hv_cpu.proofs.Masks.{and_assoc, or_and}
 
 -- the lines that a word has, put into it
 pub relined_own : (w : ℕ) → relined w (lines w) ≡ w
-relined_own w = let low : bit_and w 2184 ≤ w = and_le_l w 2184 in omega arith
+relined_own w = let low : bit_and w lines_mask ≤ w = and_le_l w lines_mask in omega arith
 
 -- those of another word that is the same without them
 pub relined_other : (v w : ℕ) → unlined v ≡ unlined w → relined v (lines w) ≡ w
@@ -40,13 +40,17 @@ apart_from N w m M none inside =
 
 -- the lines that were put in are the lines
 pub lines_relined : (w m : ℕ) → bit_and m lines_mask ≡ m → lines (relined w m) ≡ m
-lines_relined w m inside = with_bits (w + 2184) (omega (arith, below_pow (w + 2184))) (omega (arith, below_pow (w + 2184)))
+lines_relined w m inside =
+    with_bits (w + lines_mask) (omega (arith, below_pow (w + lines_mask))) (omega (arith, below_pow (w + lines_mask)))
   where
-    with_bits : (k : ℕ) → w < 2 ^ k → 2184 < 2 ^ k → lines (relined w m) ≡ m
-    with_bits k small low =
-        let N : ℕ = 2 ^ k - 1 - 2184 in
-        let rest : bit_and N w + bit_and 2184 w ≡ w = and-not k 2184 w low small in
-        let mask : bit_and N 2184 + bit_and 2184 2184 ≡ 2184 = and-not k 2184 2184 low low in
-        let none : bit_and N 2184 ≡ 0 = omega arith in
-        let cut : unlined w ≡ bit_and N w = omega (arith, and_comm w 2184) in
-        ap (λ (n : ℕ). bit_and (n + m) lines_mask) cut ∙ apart_from N w m 2184 none inside
+    by_mask : (M k : ℕ) → bit_and m M ≡ m → w < 2 ^ k → M < 2 ^ k → bit_and (w - bit_and w M + m) M ≡ m
+    by_mask M k within small low =
+        let N : ℕ = 2 ^ k - 1 - M in
+        let rest : bit_and N w + bit_and M w ≡ w = and-not k M w low small in
+        let mask : bit_and N M + bit_and M M ≡ M = and-not k M M low low in
+        let none : bit_and N M ≡ 0 = omega (arith, and_self M) in
+        let cut : w - bit_and w M ≡ bit_and N w = omega (arith, and_comm w M) in
+        ap (λ (n : ℕ). bit_and (n + m) M) cut ∙ apart_from N w m M none within
+
+    with_bits : (k : ℕ) → w < 2 ^ k → lines_mask < 2 ^ k → lines (relined w m) ≡ m
+    with_bits k small low = by_mask lines_mask k inside small low

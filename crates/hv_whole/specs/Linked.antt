@@ -1,5 +1,5 @@
--- How a watched machine and the bare machine that stands for it are linked at each moment. The machines on the path, the
--- items, are those of the start; so is the map F of the last of them, however the storage changes.
+-- How a watched machine and the bare machine that stands for it are linked at each moment. The machines on the path,
+-- the items, are those of the start; so is the map F of the last of them, however the storage changes.
 use Rattle.std.specs.Prelude.{◌≡◌, ◌≢◌, ℕ, ◌<◌, ◌≤◌, ◌⊎◌, false, ◌==◌, if◌then◌else◌, List, [], ◌∷◌, ◌++◌, length, Some, slice_get}
 use Rattle.hv_word.specs.Storage.{page_count, word_at}
 use Rattle.hv_cpu.specs.Regs.{Regs}
@@ -35,7 +35,8 @@ BlocksDiffer (x ∷ xs) = EachBlock (λ b. x.block ≢ b) xs × BlocksDiffer xs
 abbrev pub Unread : List Slot → ℕ → Type 0
 Unread F g = Opens F Read g → ⊥
 
--- word w of bare page g is none that the machine at the end of the items reads, nor a word for registers in one of the blocks
+-- word w of bare page g is none that the machine at the end of the items reads, nor a word for registers in one of the
+-- blocks
 abbrev pub Aside : List Slot → List Item → ℕ → ℕ → Type 0
 Aside F items g w = (w < 1024) × Unread F g × EachBlock (λ b. (g ≢ b) ⊎ IsOther w) items
 
@@ -54,9 +55,10 @@ pub record Alone (S : List ℕ) (items : List Item) (F : List Slot) : Type 0 whe
   pub one : IsOneToOne F
   pub short : length items ≤ depth_limit
 
--- In the state st, T and c are the storage and the registers of the bare machine: the words that F is read from are those of
--- the storage A of the start, T is what the machine sees, and c is its registers.
-pub record Linked (h : ℕ) (items : List Item) (A : List ℕ) (F : List Slot) (st : State) (T : List ℕ) (c : Regs) : Type 0 where
+-- In the state st, T and c are the storage and the registers of the bare machine: the words that F is read from are
+-- those of the storage A of the start, T is what the machine sees, and c is its registers.
+pub record Linked (h : ℕ) (items : List Item) (A : List ℕ) (F : List Slot) (st : State) (T : List ℕ) (c : Regs)
+    : Type 0 where
   pub chain : EachChain (λ g w. word_at A g w ≡ word_at st.storage g w) A (identity (page_count A)) 0 items
   pub len : length st.storage ≡ length A
   pub sees : Sees (length items) F st.storage T
@@ -66,7 +68,11 @@ pub record Linked (h : ℕ) (items : List Item) (A : List ℕ) (F : List Slot) (
 pub record Keeps (h : ℕ) (items : List Item) (A : List ℕ) (F : List Slot) (st next : State) : Type 0 where
   pub chain : EachChain (λ g w. word_at st.storage g w ≡ word_at next.storage g w) A (identity (page_count A)) 0 items
   pub len : length next.storage ≡ length st.storage
-  pub pages : (y x w : ℕ) (s : Slot) → slice_get F y ≡ Some s → s.read ≡ Open x → w < 1024 → word_at st.storage x w ≡ word_at next.storage x w
+  pub pages : (y x w : ℕ) (s : Slot)
+      → slice_get F y ≡ Some s
+      → s.read ≡ Open x
+      → w < 1024
+      → word_at st.storage x w ≡ word_at next.storage x w
   pub regs : own h items next ≡ lined_of (own h items st) (lines_of h items next)
   pub same : lines_of h items st ≡ lines_of h items next → own h items next ≡ own h items st
 

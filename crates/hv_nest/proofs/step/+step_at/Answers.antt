@@ -1,10 +1,11 @@
 -- Each way out is a row of a step.
-use Rattle.std.proofs.Common.{ℕ, ◌<◌, List, length, ap, ◌∙◌, sym, arith}
+use Rattle.std.proofs.Common.{◌≡◌, ℕ, ◌<◌, List, length, ap, ◌∙◌, sym, arith}
 use Rattle.hv_map.specs.Chain.{map_along}
 use Rattle.hv_limits.specs.Limits.{depth_limit}
 use Rattle.hv_nest.specs.Step.{interrupted, put_back, told, malformed}
 use Rattle.hv_nest.specs.Notes.{undone}
 use Rattle.hv_nest.proofs.Follows.{child_regs}
+use Rattle.hv_nest.proofs.Undone.{length_noted}
 use Rattle.hv_nest.proofs.Counts.{child_count}
 use Rattle.hv_nest.proofs.Rows.{row_pending, chain_deepest, chain_refused, chain_malformed, chain_child, chain_longer, chain_next, put_ok}
 use Rattle.hv_nest.proofs.step.+step_at.Goals as goal
@@ -35,7 +36,7 @@ pub returns-in-Err-clause-steps : goal.returns-in-Err-clause-steps
 returns-in-Err-clause-steps t c =
     let shallow : length c.args.chain.now < depth_limit = omega (arith, c.len-level.ensures.len, c.len-level.ensures.bound, c.if-level-eq-DEPTH.false) in
     c.tell.ensures.tells
-    ∙ ap (λ (S : List ℕ). told S c.len-level.result c.args.cpu.now c.in-Child.host c.in-Err.refusal) c.in-Err.ensures.err_storage
+    ∙ ap (λ (S : List ℕ). told S c.len-level.result c.args.cpu.now c.in-Child.host c.in-Err.refusal) c.in-Err.ensures.err.storage
     ∙ ap (λ (j : ℕ). told c.args.store.now j c.args.cpu.now c.in-Child.host c.in-Err.refusal) c.len-level.ensures.len
     ∙ ap (put_back c.args.store.now (length c.args.chain.now) c.args.cpu.now c.in-Child.host) c.in-Err.ensures.steps
     ∙ sym (chain_child c.args.store.now c.args.chain.now c.deeper-deeper.result c.args.hart c.args.cpu.now c.in-Some-entered.page c.in-Child.host c.in-Child.block shallow c.in_default.ensures.takes c.in-Some-entered.ensures.some c.in-Some-entered.ensures.real c.in-Child.ensures.found c.deeper-deeper.ensures)
@@ -52,6 +53,12 @@ returns-in-Refused-clause-steps t c =
     let shallow : length c.args.chain.now < depth_limit = omega (arith, c.len-level.ensures.len, c.len-level.ensures.bound, c.if-level-eq-DEPTH.false) in
     sym (chain_refused c.args.store.now c.args.chain.now c.args.hart c.args.cpu.now c.in-Some-entered.page c.in-Refused.refusal shallow c.in_default.ensures.takes c.in-Some-entered.ensures.some c.in-Some-entered.ensures.real c.in-Refused.ensures.found)
 
-pub returns-in-Ok-clause-count : goal.returns-in-Ok-clause-count
-returns-in-Ok-clause-count t c =
-    child_count c.args.store.now (undone c.step_at.new.store c.step_at.new.notes) c.in-Child.host (length c.put_cpu.new.notes) (length c.step_at.new.notes) c.in-Child.block.cpu c.step_at.new.cpu c.args.cpu.now c.step_at.ensures.origin (child_regs c.args.store.now (map_along c.args.store.now c.args.chain.now) c.in-Some-entered.page c.in-Child.host c.in-Child.block c.in-Child.ensures.found) c.step_at.ensures.count c.put_cpu.ensures.count
+pub returns-in-Ok-clause-noted : goal.returns-in-Ok-clause-noted
+returns-in-Ok-clause-noted t c =
+    let origin : undone c.put_cpu.new.store c.put_cpu.new.notes ≡ c.args.store.now =
+        c.put_cpu.ensures.origin ∙ c.step_at.ensures.noted.origin in
+    record {
+      len = length_noted c.args.store.now c.put_cpu.new.store c.put_cpu.new.notes origin;
+      origin = origin;
+      count = child_count c.args.store.now (undone c.step_at.new.store c.step_at.new.notes) c.in-Child.host (length c.put_cpu.new.notes) (length c.step_at.new.notes) c.in-Child.block.cpu c.step_at.new.cpu c.args.cpu.now c.step_at.ensures.noted.origin (child_regs c.args.store.now (map_along c.args.store.now c.args.chain.now) c.in-Some-entered.page c.in-Child.host c.in-Child.block c.in-Child.ensures.found) c.step_at.ensures.noted.count c.put_cpu.ensures.count;
+    }

@@ -1,5 +1,5 @@
 use Rattle.std.proofs.Common.{arith}
-use Rattle.hv_run.proofs.Within.{same_at, told_more, rest_more}
+use Rattle.hv_run.proofs.Within.{same_at, watches_more, rest_more}
 use Rattle.hv_run.proofs.moving.tell_all.Goals as goal
 
 pub tell-requires-clause-count : goal.tell-requires-clause-count
@@ -16,6 +16,6 @@ tell-requires-clause-total g c =
 
 pub loop-one-preserved : goal.loop-one-preserved
 loop-one-preserved g c = record {
-  told = told_more c.args.happened.now (g.N.Nested.state c.args.nested.now) c.loop-one.watched c.args.watched.now c.loop-one.one-index c.one-item.result c.tell.new.self (omega arith) (omega arith) c.loop-one.invariant.told c.loop-one.invariant.rest c.tell.ensures;
+  told = watches_more c.args.happened.now (g.N.Nested.state c.args.nested.now) c.loop-one.watched c.args.watched.now c.loop-one.one-index c.one-item.result c.tell.new.self (omega arith) (omega arith) c.loop-one.invariant.told c.loop-one.invariant.rest c.tell.ensures;
   rest = rest_more c.loop-one.watched c.args.watched.now c.loop-one.one-index c.tell.new.self c.loop-one.invariant.rest;
 }

@@ -3,8 +3,7 @@ use Rattle.std.proofs.lemmas.List.{take_all}
 use Rattle.hv_irq.specs.declared.Event.{Event}
 use Rattle.hv_nest.specs.State.{State}
 use Rattle.hv_run.specs.Play.{Played}
-use Rattle.hv_run.specs.Promises.{AreRouted}
-use Rattle.hv_run.specs.Record.{Told, WatchOf, schedule}
+use Rattle.hv_run.specs.Record.{WatchOf, schedule}
 use Rattle.hv_run.specs.Stands.{StandsFor, watches_of}
 use Rattle.hv_run.proofs.Promised.{stands_bare, stands_routed}
 use Rattle.hv_run.proofs.Moves.{last_none}
@@ -35,6 +34,5 @@ pub returns-clause-routed : goal.returns-clause-routed
 returns-clause-routed g c =
     let old = g.N.Nested.state c.args.nested.now in
     let ws = watches_of c.args.watches.now in
-    subst (λ (t : Told). AreRouted old (schedule c.args.events.now) t.kept) (sym c.finish.ensures)
-    (stands_routed c.loop-event.play old (schedule c.args.events.now) ws
-    (at_end c.loop-event.play old c.args.events.now c.loop-event.event-index ws c.loop-event-test.false c.loop-event.invariant.stands))
+    stands_routed c.loop-event.play old (schedule c.args.events.now) ws
+    (at_end c.loop-event.play old c.args.events.now c.loop-event.event-index ws c.loop-event-test.false c.loop-event.invariant.stands)

@@ -1,13 +1,6 @@
-use Rattle.std.proofs.Common.{◌≤◌, List, length, arith}
-use Rattle.std.proofs.lemmas.List.{length-map}
-use Rattle.hv_map.specs.declared.path.Watch.{Watch}
 use Rattle.hv_run.proofs.Starts.{new_sound, stands_new}
-use Rattle.hv_run.specs.Stands.{watch_of, watches_of}
+use Rattle.hv_run.specs.Stands.{watches_of}
 use Rattle.hv_run.proofs.moving.Play.new.Goals as goal
-
--- as many watches are kept as were given
-few : (ws : List Watch) → length ws ≤ 16 → length (watches_of ws) ≤ 16
-few ws h = omega (arith, length-map ws watch_of)
 
 pub invariant_of-result : goal.invariant_of-result
 invariant_of-result g c =
@@ -15,4 +8,4 @@ invariant_of-result g c =
 
 pub returns-clause-stands : goal.returns-clause-stands
 returns-clause-stands g c =
-    stands_new (g.N.Nested.state c.args.nested.now) _ (watches_of c.args.watches.now) c.requires.watches (few c.args.watches.now c.requires.number) c.in_ok-counts.ensures c.in_ok-watched.ensures
+    stands_new (g.N.Nested.state c.args.nested.now) _ (watches_of c.args.watches.now) c.requires.watches c.in_ok-counts.ensures c.in_ok-watched.ensures

@@ -1,5 +1,5 @@
 use Rattle.std.proofs.Common.{◌≡◌, ◌++◌, ◌∷◌, [], List, ap, sym, ◌∙◌, subst}
-use Rattle.hv_nest.specs.Changes.{TellsChanges}
+use Rattle.hv_nest.specs.Changes.{differences}
 use Rattle.hv_nest.specs.Move.{StepOf, Moved, moved_of}
 use Rattle.hv_nest.specs.State.{State, IsNextInside}
 use Rattle.hv_run.specs.Play.{Played}
@@ -22,7 +22,7 @@ returns-clause-stands g c =
     let changed = c.step-outcome.result.changed in
     let same = c.running-running.ensures.same in
     let moves_is = c.step-outcome.ensures.moves ∙ ap (λ (st : State). moved_of st hart) same in
-    let told = subst (λ (st : State). TellsChanges st.storage new.storage changed) same c.step-outcome.ensures.changed in
+    let told = subst (λ (st : State). changed ≡ differences st.storage new.storage) same c.step-outcome.ensures.changed in
     let len = c.step-outcome.ensures.len ∙ ap (λ (st : State). Rattle.std.proofs.Common.length st.storage) same in
     let inside = subst (λ (st : State). IsNextInside st hart) same c.step-outcome.ensures.next in
     let tells = tells_step c.args.self.now.watching old new hart c.running-running.result kind changed moves_is c.running-running.ensures.path told len in

@@ -1,6 +1,6 @@
 use Rattle.std.proofs.Common.{◌≡◌, ◌++◌, take}
-use Rattle.hv_run.specs.Text.{words_text}
-use Rattle.hv_run.proofs.text.put_words.Given as goal
+use Rattle.hv_text.specs.Text.{words_text}
+use Rattle.hv_text.proofs.put_words.Given as goal
 
 abbrev pub invariant-loop-word : goal.invariant-loop-word
 invariant-loop-word l = l.out.items ≡ l.fn.out.items ++ words_text (take l.word-index l.words)

@@ -1,7 +1,8 @@
 use Rattle.std.proofs.Common.{◌≡◌, ◌+◌, ◌-◌, ◌≤◌, length, take, drop, replicate}
 use Rattle.hv_nest.specs.Changes.{differences_to}
 use Rattle.hv_nest.specs.Notes.{undone, noted_from}
-use Rattle.hv_nest.proofs.notes.Notes.changed.Given as goal
+use Rattle.hv_nest.specs.Rows.{no_row}
+use Rattle.hv_nest.proofs.notes.Notes.rows.Given as goal
 
 abbrev pub invariant-loop-at : goal.invariant-loop-at
 invariant-loop-at l = record {
@@ -9,7 +10,7 @@ invariant-loop-at l = record {
   long : length l.rows ≡ 8;
   inside : l.from ≤ length l.store;
   told : take l.len l.rows ≡ differences_to (undone l.store l.self) l.store l.from;
-  rest : drop l.len l.rows ≡ replicate (8 - l.len) (record { at = 0; value = 0 });
+  rest : drop l.len l.rows ≡ replicate (8 - l.len) no_row;
 }
 
 abbrev pub decreases-loop-at : goal.decreases-loop-at

@@ -2,7 +2,7 @@
 use Rattle.std.proofs.Common.{◌∙◌}
 use Rattle.hv_nest.proofs.Rows.{host_is}
 use Rattle.hv_nest.proofs.Frames.{host_framed}
-use Rattle.hv_nest.proofs.step.host_step.Goals as goal
+use Rattle.hv_nest.proofs.step.inner_step.Goals as goal
 
 pub returns-clause-frame : goal.returns-clause-frame
 returns-clause-frame c =

@@ -1,6 +1,6 @@
 -- A job that is built and played, and the bare machines beside its watched ones.
-use Rattle.std.specs.Prelude.{◌≡◌, ℕ, ◌^◌, ◌<◌, ◌≤◌, All, List, [], length, Option, Some, None, Result, Ok, Err, bit_and}
-use Rattle.hv_limits.specs.Limits.{lines_mask}
+use Rattle.std.specs.Prelude.{◌≡◌, ℕ, ◌<◌, ◌≤◌, All, List, [], length, Option, Some, None, Result, Ok, Err, bit_and}
+use Rattle.hv_limits.specs.Limits.{lines_mask, pages_limit, steps_limit}
 use Rattle.hv_job.specs.declared.job.Job.{Job}
 use Rattle.hv_load.specs.Build.{build_of}
 use Rattle.hv_load.specs.declared.ends.BuildKind.{BuildKind}
@@ -14,11 +14,11 @@ use Rattle.hv_run.specs.Record.{WatchTold, schedule}
 use Rattle.hv_twin.specs.Twin.{NeverFalls}
 use Rattle.hv_top.specs.Jobs.{told_output}
 use Rattle.hv_top.specs.Output.{Output}
-use Rattle.hv_top.specs.Run.{state_of, told_of}
+use Rattle.hv_top.specs.Run.{state_of, record_on}
 
 -- the text about the watches of the start of a job, which is played to the end of the job's schedule
 abbrev pub check_on : Job → Start → List ℕ
-check_on job start = check_of (state_of start) (told_of (schedule job.recording) start)
+check_on job start = check_of (state_of start) (record_on (schedule job.recording) start)
 
 -- what `check` writes for a text
 unfoldable pub check_output : List ℕ → Output
@@ -32,15 +32,15 @@ built_state (Err end) = record { storage = []; harts = [] }
 unfoldable pub start_state : Job → State
 start_state job = built_state (build_of job)
 
--- the machine is there, its block is in the bare page that is told, and it has at most 16384 pages
+-- the machine is there, its block is in the bare page that is told, and it has no more pages than can be watched
 abbrev pub IsMachine : List ℕ → Option ℕ → Option (List Item) → Type 0
 IsMachine S block None = ⊥
-IsMachine S block (Some items) = (block ≡ last_block items) × (length (map_along S items) ≤ 16384)
+IsMachine S block (Some items) = (block ≡ last_block items) × (length (map_along S items) ≤ pages_limit)
 
 -- what always holds of what is told of a watch
 pub record IsRow (start : State) (w : WatchTold) : Type 0 where
   pub hart : w.hart < length start.harts
   pub machine : IsMachine start.storage w.block (pin_of start.storage w.path)
-  pub steps : w.count ≤ 10 ^ 9
+  pub steps : w.count ≤ steps_limit
   pub counts : NeverFalls w.lines
   pub bits : All (λ line. bit_and line.bits lines_mask ≡ line.bits) w.lines

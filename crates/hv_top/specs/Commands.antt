@@ -39,8 +39,8 @@ abbrev pub OnReadInput : Bool → Option (List ℕ) → (List ℕ → Type 0) �
 OnReadInput true left P = IfSome left P
 OnReadInput false left P = P []
 
--- P of the input of a command: of the bytes that its source has left, where it tells them, or of none if the command reads
--- nothing
+-- P of the input of a command: of the bytes that its source has left, where it tells them, or of none if the command
+-- reads nothing
 abbrev pub OnInput : Command → Option (List ℕ) → (List ℕ → Type 0) → Type 0
 OnInput command left P = OnReadInput (reads_input command) left P
 

@@ -1,5 +1,5 @@
--- What is written for a text: what is told of its job and of the start that the job is built to, or the refusal of the first
--- line that is refused, in the text or else when the job is built.
+-- What is written for a text: what is told of its job and of the start that the job is built to, or the refusal of the
+-- first line that is refused, in the text or else when the job is built.
 use Rattle.std.specs.Prelude.{ℕ, List, Result, Ok, Err, codes}
 use Rattle.hv_job.specs.JobOf.{job_of}
 use Rattle.hv_job.specs.declared.job.Job.{Job}

@@ -20,26 +20,26 @@ use Rattle.hv_top.specs.Shown.{AreShown}
 abbrev pub state_of : Start → State
 state_of start = record { storage = start.store; harts = start.harts }
 
--- what is told of the play of these moves
-abbrev pub told_of : List Move → Start → Told
-told_of moves start = record_of (state_of start) moves (watches_of start.plan.watches)
+-- what a play of these moves from a start tells
+abbrev pub record_on : List Move → Start → Told
+record_on moves start = record_of (state_of start) moves (watches_of start.plan.watches)
 
 -- the report on the start of a job, which is played to the end of the job's schedule
 abbrev pub report_on : Job → Start → List ℕ
 report_on job start =
-    report_of (told_of (schedule job.recording) start) start.plan (last_of (state_of start) (schedule job.recording))
+    report_of (record_on (schedule job.recording) start) start.plan (last_of (state_of start) (schedule job.recording))
 
 -- what `run` writes for a text
 unfoldable pub run_output : List ℕ → Output
 run_output text = told_output report_on text
 
--- What is promised of a start that is played by these moves: a watched machine that stands apart at the start is at each
--- moment, up to the first touch, a bare machine that runs alone, and the program shows it; and each fault that is told reached
--- the first level that refuses.
+-- What is promised of a start that is played by these moves: a watched machine that stands apart at the start is at
+-- each moment, up to the first touch, a bare machine that runs alone, and the program shows it; and each fault that is
+-- told reached the first level that refuses.
 pub record PlayIsPromised (moves : List Move) (start : Start) : Type 0 where
   pub guests : AreBareRuns (state_of start) moves (watches_of start.plan.watches)
   pub shown : AreShown (state_of start) moves (watches_of start.plan.watches)
-  pub routed : AreRouted (state_of start) moves (told_of moves start).kept
+  pub routed : AreRouted (state_of start) moves (record_on moves start).kept
 
 abbrev pub StartIsPromised : List Move → Result Start (ℕ × BuildKind) → Type 0
 StartIsPromised moves (Ok start) = PlayIsPromised moves start

@@ -14,13 +14,24 @@ use Rattle.hv_limits.specs.Limits.{kept_limit}
 use Rattle.hv_run.specs.Text.{line}
 use Rattle.hv_run.specs.Stands.{EachWatch}
 
--- The words that the report has of the watched machine are those of the bare machine that began with what it saw, and ran
--- alone with all changes of lines. Where all of these are kept, `check` writes the same text of the watch as the report has;
--- where they are more, it says that no bare machine was run.
+-- what `check` writes of a watch, and what the report writes of it
+abbrev pub text_alone : State → WatchOf → List Item → Tally → List ℕ
+text_alone start w items t = checked_watch start (told_by w start items t)
+
+abbrev pub text_reported : (start last : State) → WatchOf → List Item → Tally → List ℕ
+text_reported start last w items t = watch_text last (told_by w start items t)
+
+-- what `check` writes of a watch beside which no bare machine was run
+abbrev pub text_without_twin : State → WatchOf → List Item → Tally → List ℕ
+text_without_twin start w items t = watch_line (told_by w start items t) ++ line (codes "twin none")
+
+-- The words that the report has of the watched machine are those of the bare machine that began with what it saw, and
+-- ran alone with all changes of lines. Where all of these are kept, `check` writes the same text of the watch as the
+-- report has; where they are more, it says that no bare machine was run.
 pub record IsShownBy (start last : State) (w : WatchOf) (items : List Item) (t : Tally) : Type 0 where
   pub run : machine_words last w.hart (last_block items) ≡ machine_words (twin_after start w items t) 0 None
-  pub check : length t.changes ≤ kept_limit → checked_watch start (told_by w start items t) ≡ watch_text last (told_by w start items t)
-  pub none : kept_limit < length t.changes → checked_watch start (told_by w start items t) ≡ watch_line (told_by w start items t) ++ line (codes "twin none")
+  pub check : length t.changes ≤ kept_limit → text_alone start w items t ≡ text_reported start last w items t
+  pub none : kept_limit < length t.changes → text_alone start w items t ≡ text_without_twin start w items t
 
 -- what a watch has told at the end of these moves
 abbrev pub tally_over : State → List Move → WatchOf → List Item → Tally

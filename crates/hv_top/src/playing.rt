@@ -8,7 +8,7 @@ ghost use Rattle.hv_nest.specs.Move.{last_of};
 ghost use Rattle.hv_report.specs.Report.{AreThere};
 ghost use Rattle.hv_run.specs.Record.{schedule};
 ghost use Rattle.hv_top.specs.Check.{IsRow};
-ghost use Rattle.hv_top.specs.Run.{PlayIsPromised, state_of, told_of};
+ghost use Rattle.hv_top.specs.Run.{PlayIsPromised, state_of, record_on};
 
 use hv_job::Job;
 use hv_load::{Plan, Start};
@@ -31,7 +31,7 @@ pub fn play_out(alloc: Global, job: &Job, start: Start) -> Result<Ending, AllocE
     requires ready { IsReady job.now start }
     ensures state { IfOk result (λ end. end.plain ≡ last_of (state_of start) (schedule job.now.recording)) }
     ensures plan { IfOk result (λ end. end.plan ≡ start.plan) }
-    ensures told { IfOk result (λ end. end.record ≡ told_of (schedule job.now.recording) start) }
+    ensures told { IfOk result (λ end. end.record ≡ record_on (schedule job.now.recording) start) }
     ensures there { IfOk result (λ end. AreThere end.plain (end.record).watches) }
     ensures rows { IfOk result (λ end. All (IsRow (state_of start)) (end.record).watches) }
     ensures promised { OnOk result (PlayIsPromised (schedule job.now.recording) start) }

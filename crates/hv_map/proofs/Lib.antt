@@ -3,6 +3,7 @@ pub mod Assoc
 pub mod Handed
 pub mod Levels
 pub mod Like
+pub mod Machines
 pub mod Outwards
 pub mod Pins
 pub mod Rows

@@ -1,4 +1,4 @@
--- A compose map slot by slot, and a map along one more machine.
+-- A composed map slot by slot, and a map along one more machine.
 use Rattle.std.proofs.Common.{◌≡◌, ℕ, suc, ◌+◌, ◌<◌, List, [], ◌∷◌, ◌++◌, map, length, Some, ap, ◌∙◌, sym, arith, slice_get}
 use Rattle.std.specs.List.{range_with_len}
 use Rattle.std.proofs.lemmas.Option.{slice_get-get_or, slice_get_within, same_Some}
@@ -30,7 +30,7 @@ pub composed_at : (S : List ℕ) (F : List Slot) (j n t v i : ℕ) (s : Slot) �
 composed_at S F j n t v i s e =
     same_Some s (compose_slot S F j t v i) (sym e ∙ slice_get-composed S F j n t v i (composed_inside S F j n t v i s e))
 
--- the map along one more machine is compose of the map so far
+-- the map along one more machine is composed of the map so far
 pub along-snoc : (S : List ℕ) (F : List Slot) (j : ℕ) (xs : List Item) (x : Item) → along S F j (xs ++ x ∷ []) ≡ compose S (along S F j xs) (j + length xs) x.pages x.table x.version
 unfolding along
 along-snoc S F j [] x = let e : j ≡ j + 0 = omega arith in ap (λ (k : ℕ). compose S F k x.pages x.table x.version) e

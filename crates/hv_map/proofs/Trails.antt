@@ -1,4 +1,4 @@
--- The way of a page found from the inside out is the one that the map has, which is compose from the outside in.
+-- The way of a page found from the inside out is the one that the map has, which is composed from the outside in.
 use Rattle.std.proofs.Common.{◌≡◌, ℕ, ◌+◌, ◌/◌, ◌%◌, ◌<◌, ◌≤◌, inl, inr, Bool, cond, ◌==◌, List, [], ◌∷◌, ◌++◌, length, Option, Some, None, refl, ap, ◌∙◌, sym, subst, arith, slice_get, get_or}
 use Rattle.std.specs.Prelude.{reverse}
 use Rattle.std.specs.Option.{option_map}

@@ -1,4 +1,4 @@
--- How a child's map is compose of its parent's. The parent's control block says how many pages n the child has, where its
+-- How a child's map is composed of its parent's. The parent's control block says how many pages n the child has, where its
 -- table is, t, and the version v of the block. In version 0 the table begins at the parent's page t; in version 2 the page t
 -- is a directory, each of whose words names a page of the table. Bit 0 of a directory or table word says that it is present,
 -- bits 31:12 have the parent's page. Bit 1 of a table word lets the page be written; in version 2 bit 2 lets it be fetched.

@@ -1,11 +1,15 @@
 //! The machines on a path, with what their control blocks say.
 
-ghost use Rattle.std.specs.Prelude.{◌≡◌, ◌<◌, ◌≤◌, ◌^◌, ◌++◌, ◌∷◌, [], Some, length, map, slice_get};
+ghost use Rattle.std.specs.Prelude.{◌≡◌, ◌<◌, ◌≤◌, ◌^◌, ◌++◌, ◌∷◌, [], ℕ, IfSome, List, Some, length, map, slice_get};
 ghost use Rattle.std.specs.Option.{option_map};
 ghost use Rattle.hv_limits.specs.Limits.{depth_limit};
+ghost use Rattle.hv_word.specs.Storage.{page_count};
 
+use crate::lookup::pages_at;
 use crate::path::Path;
+use hv_block::Block;
 use hv_limits::DEPTH;
+use hv_store::Store;
 use std::marker::Model;
 
 /// One machine on a path: the bare page of its control block, how many pages it has, where its table is in its parent's
@@ -71,7 +75,9 @@ impl Model for Chain {
 }
 
 impl Chain {
-    ghost use Rattle.hv_map.specs.Links.{syllable_of, chain_item};
+    ghost use Rattle.hv_map.specs.Chain.{map_along, pin_of};
+    ghost use Rattle.hv_map.specs.Found.{item_of};
+    ghost use Rattle.hv_map.specs.Links.{syllable_of, chain_item, last_block};
 
     /// The chain of the bare machine.
     pub fn new() -> Chain
@@ -132,14 +138,39 @@ impl Chain {
         path
     }
 
-    // The chain with one more machine.
-    pub(crate) fn grown(&self, link: Link) -> Chain
+    /// The bare page of the last machine's control block, none for the bare machine.
+    #[tactic(auto, using(crate::proofs::Machines::last_there, crate::proofs::Machines::last_none, crate::proofs::Machines::last_fits))]
+    pub fn last_block(&self) -> Option<u32>
+        ensures block { result ≡ last_block self.now }
+        ensures within { (S : List ℕ) → pin_of S (map syllable_of self.now) ≡ Some self.now → IfSome result (λ g. g < page_count S) }
+    {
+        let last = self.len.checked_sub(1)?;
+        Some(self.link(last).block)
+    }
+
+    /// The number of pages of the last machine, or of the store where the chain has none.
+    #[tactic(auto, using(crate::proofs::Levels::chains))]
+    pub fn pages(&self, store: &Store) -> u32
+        ensures pages { result ≡ length (map_along store.now self.now) }
+        ensures bound { result ≤ 2 ^ 20 }
+    {
+        pages_at(store, self, self.len())
+    }
+
+    /// The chain with one machine more, whose syllable is `syllable` and whose control block is in bare page `host`.
+    pub fn deeper(&self, syllable: u32, host: u32, block: &Block) -> Chain
         requires room { length self.now < depth_limit }
-        requires pages { link.pages ≤ 2 ^ 20 }
-        ensures { result ≡ self.now ++ link ∷ [] }
+        requires pages { block.now.pages ≤ 2 ^ 20 }
+        ensures { result ≡ self.now ++ item_of syllable host block.now ∷ [] }
     {
         let mut links = self.links;
-        links[self.len as usize] = link;
+        links[self.len as usize] = Link {
+            syllable,
+            block: host,
+            pages: block.pages,
+            table: block.table,
+            version: block.version,
+        };
         Chain {
             len: self.len + 1,
             links,

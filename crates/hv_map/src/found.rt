@@ -1,12 +1,11 @@
 //! What a machine finds where it would run a child.
 
-ghost use Rattle.std.specs.Prelude.{◌≡◌, ◌<◌, ◌≤◌, ◌^◌, ◌++◌, ◌∷◌, [], Some, length};
+ghost use Rattle.std.specs.Prelude.{◌≡◌, ◌<◌, Some, length};
 ghost use Rattle.hv_word.specs.Storage.{page_count};
 ghost use Rattle.hv_map.specs.Chain.{map_along};
-ghost use Rattle.hv_limits.specs.Limits.{depth_limit};
-ghost use Rattle.hv_map.specs.Found.{found_on, item_of, IsFoundWithin};
+ghost use Rattle.hv_map.specs.Found.{found_on, IsFoundWithin};
 
-use crate::chain::{Chain, Link};
+use crate::chain::Chain;
 use crate::lookup::page_slot;
 use crate::ways::refusal;
 use hv_block::{Block, read_block};
@@ -40,22 +39,5 @@ pub fn child(store: &Store, chain: &Chain, page: u32) -> Found
             page,
             word,
         } => Found::Refused(refusal(level, cause, page, word, 0, Access::Write)),
-    }
-}
-
-impl Chain {
-    /// The chain with one machine more, whose syllable is `syllable` and whose control block is in bare page `host`.
-    pub fn deeper(&self, syllable: u32, host: u32, block: &Block) -> Chain
-        requires room { length self.now < depth_limit }
-        requires pages { block.now.pages ≤ 2 ^ 20 }
-        ensures { result ≡ self.now ++ item_of syllable host block.now ∷ [] }
-    {
-        self.grown(Link {
-            syllable,
-            block: host,
-            pages: block.pages,
-            table: block.table,
-            version: block.version,
-        })
     }
 }

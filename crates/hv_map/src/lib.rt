@@ -15,7 +15,7 @@ pub use chain::{Chain, ChainItem};
 pub use following::trail;
 pub use found::{Found, child};
 pub use hv_store::{Slot, Way};
-pub use lookup::resolve;
+pub use lookup::{page_slot, resolve};
 pub use path::{Path, Watch};
 pub use pinning::pin;
 pub use view::View;

@@ -13,17 +13,6 @@ use hv_word::field;
 use std::marker::Brand;
 use std::sync::ledger::{Blank, Ledger};
 
-impl Chain {
-    /// The number of pages of the last machine, or of the store where the chain has none.
-    #[tactic(auto, using(crate::proofs::Levels::chains))]
-    pub fn pages(&self, store: &Store) -> u32
-        ensures pages { result ≡ length (map_along store.now self.now) }
-        ensures bound { result ≤ 2 ^ 20 }
-    {
-        pages_at(store, self, self.len())
-    }
-}
-
 /// Where page `page` of the chain's machine lies. It opens bare pages of the store alone, and a way of it that is shut is
 /// shut at a level below the chain's length. For a chain of `a` blocks of version 0 and `b` of version 2, at most
 /// `2^a * 3^b - 1` table words are read.
@@ -37,8 +26,8 @@ pub fn resolve<L: Ledger>(store: &Store, chain: &Chain, page: u32, steps: &mut S
     resolve_at(store, chain, chain.len(), page, steps)
 }
 
-// The same where no steps are counted.
-pub(crate) fn page_slot(store: &Store, chain: &Chain, page: u32) -> Slot
+/// The same where no steps are counted.
+pub fn page_slot(store: &Store, chain: &Chain, page: u32) -> Slot
     requires { page < length (map_along store.now chain.now) }
     ensures slot { slice_get (map_along store.now chain.now) page ≡ Some result }
     ensures within { IsWithin (page_count store.now) (length chain.now) result }

@@ -53,6 +53,16 @@ impl Path {
         &self.syllables[..self.len as usize]
     }
 
+    /// The same path.
+    pub fn copied(&self) -> Path
+        ensures { result ≡ self.now }
+    {
+        Path {
+            len: self.len,
+            syllables: self.syllables,
+        }
+    }
+
     /// Syllable `i`, counted from 0.
     pub fn at(&self, i: u32) -> u32
         requires { i < length self.now }

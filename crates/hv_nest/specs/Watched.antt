@@ -9,6 +9,7 @@ use Rattle.hv_store.specs.declared.access.Slot.{Slot}
 use Rattle.hv_store.specs.Access.{identity}
 use Rattle.hv_map.specs.Item.{Item}
 use Rattle.hv_map.specs.Compose.{compose, reading, table_of}
+pub use Rattle.hv_map.specs.Links.{last_block}
 use Rattle.hv_map.specs.Chain.{map_along}
 use Rattle.hv_map.specs.Apart.{table_open, directory_of, table_pages, open_pages}
 use Rattle.hv_nest.specs.declared.outcome.StepKind.{StepKind}
@@ -55,12 +56,6 @@ item_foot S F j x =
 unfoldable pub chain_foot : List ℕ → List Slot → ℕ → List Item → List ℕ
 chain_foot S F j [] = []
 chain_foot S F j (x ∷ xs) = item_foot S F j x ++ chain_foot S (compose S F j x.pages x.table x.version) (j + 1) xs
-
--- the block of the last machine
-abbrev pub last_block : List Item → Option ℕ
-last_block [] = None
-last_block (x ∷ []) = Some x.block
-last_block (x ∷ (y ∷ ys)) = last_block (y ∷ ys)
 
 -- the words 0 to 48 and 64 of a block but word 42, which has the lines
 abbrev pub own_places : Option ℕ → List ℕ

@@ -87,8 +87,8 @@ fn a_machine_is_a_block_and_a_table(rt: HostRuntime) -> Result<(), Fail> {
     Ok(())
 }
 
-fn fault(kind: BuildKind) -> Result<(), LineEnd> {
-    Err(LineEnd::Fault(kind))
+fn fault(kind: BuildKind) -> Result<(), DirectiveEnd> {
+    Err(DirectiveEnd::Fault(kind))
 }
 
 #[test]

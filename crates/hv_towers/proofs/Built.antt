@@ -2,6 +2,7 @@
 use Rattle.std.proofs.Common.{◌≡◌, ℕ, zero, suc, ◌+◌, ◌*◌, ◌/◌, ◌%◌, ◌<◌, ◌≤◌, List, [], ◌∷◌, ◌++◌, length, map, replicate, Option, Some, None, Ok, refl, ap, ◌∙◌, sym, subst, arith, get_or}
 use Rattle.std.specs.List.{All}
 use Rattle.std.proofs.lemmas.List.{ext_get_or}
+use Rattle.hv_limits.specs.Limits.{pages_limit}
 use Rattle.hv_word.specs.Storage.{page_count}
 use Rattle.hv_cpu.specs.Regs.{reset_regs}
 use Rattle.hv_store.specs.Access.{open_at}
@@ -67,7 +68,7 @@ unrefused : (b : Building) (o : Option (ℕ × BuildKind)) (start : Start) → u
 unrefused b None start is = is
 unrefused b (Some end) start is = absurd (never_ok end start is)
 
-whole : (job : Job) (P depth top line : ℕ) (parts : List Placed) (start : Start) → job.harts ≡ 1 → P ≤ 16384 → 1 ≤ top → All IsTopLine parts → build_of (with_tower job P depth top line parts) ≡ Ok start → Whole P depth top parts start
+whole : (job : Job) (P depth top line : ℕ) (parts : List Placed) (start : Start) → job.harts ≡ 1 → P ≤ pages_limit → 1 ≤ top → All IsTopLine parts → build_of (with_tower job P depth top line parts) ≡ Ok start → Whole P depth top parts start
 unfolding build_of built_from
 whole job P depth top line parts start harts few some all is =
     let b : Building = nothing_built P job.harts in

@@ -8,7 +8,8 @@ use Rattle.std.proofs.lemmas.List.Sums.{sum_by-append, sum_by-cons}
 use Rattle.hv_irq.specs.declared.Event.{Event}
 use Rattle.hv_irq.specs.declared.Event.TheVariants.{Turn}
 use Rattle.hv_isa.specs.declared.Instr.{Instr}
-use Rattle.hv_job.specs.IsJob.{IsCommand, IsJob, IsRanged, TurnOf, bytes_of, event_of, happening_of, is_dump, is_machine, is_watch}
+use Rattle.hv_line.specs.Ranges.{IsCommand, IsRanged}
+use Rattle.hv_job.specs.IsJob.{IsJob, TurnOf, bytes_of, event_of, happening_of, is_dump, is_machine, is_watch}
 use Rattle.hv_job.specs.declared.job.DebugLine.{DebugLine}
 use Rattle.hv_job.specs.declared.job.Job.{Job}
 use Rattle.hv_job.specs.declared.job.Placed.{Placed}

@@ -11,8 +11,8 @@ use Rattle.hv_asm.specs.declared.Image.{Image}
 use Rattle.hv_cpu.specs.Regs.{reset_regs}
 use Rattle.hv_job.specs.IsJob.{IsJob, count_of, is_dump, is_watch}
 use Rattle.hv_job.specs.declared.job.Job.{Job}
-use Rattle.hv_job.specs.declared.job.Directive.{Directive}
-use Rattle.hv_job.specs.declared.job.Directive.TheVariants as directive
+use Rattle.hv_line.specs.declared.types.Directive.{Directive}
+use Rattle.hv_line.specs.declared.types.Directive.TheVariants as directive
 use Rattle.hv_job.specs.declared.job.Placed.{Placed}
 use Rattle.hv_map.specs.Chain.{map_along, map_of, pin_of}
 use Rattle.hv_limits.specs.Limits.{depth_limit, pages_limit}

@@ -2,11 +2,11 @@
 use Rattle.std.specs.Prelude.{◌≡◌, ℕ, Bool, true, false, ◌||◌, nat_le, if◌then◌else◌, List, [], ◌∷◌, ◌++◌, length, map, is_some, Option, Some, None, Result, Ok, Err, codes}
 use Rattle.hv_limits.specs.Limits.{pages_limit}
 use Rattle.hv_store.specs.declared.access.Slot.{Slot}
-use Rattle.hv_job.specs.declared.job.DebugCommand.{DebugCommand}
-use Rattle.hv_job.specs.declared.job.DebugCommand.TheVariants as command
+use Rattle.hv_line.specs.declared.types.DebugCommand.{DebugCommand}
+use Rattle.hv_line.specs.declared.types.DebugCommand.TheVariants as command
 use Rattle.hv_job.specs.declared.job.DebugLine.{DebugLine}
-use Rattle.hv_job.specs.declared.job.Directive.{Directive}
-use Rattle.hv_job.specs.declared.job.Directive.TheVariants as directive
+use Rattle.hv_line.specs.declared.types.Directive.{Directive}
+use Rattle.hv_line.specs.declared.types.Directive.TheVariants as directive
 use Rattle.hv_job.specs.declared.job.Job.{Job}
 use Rattle.hv_job.specs.declared.job.Placed.{Placed}
 use Rattle.hv_map.specs.Chain.{map_of}

@@ -7,7 +7,7 @@ use Rattle.hv_irq.specs.declared.Event.TheVariants as event
 use Rattle.hv_isa.specs.Table.{row_of, spell}
 use Rattle.hv_isa.specs.declared.Instr.{Instr}
 use Rattle.hv_isa.specs.declared.Op.TheVariants.{Addi, Jal}
-use Rattle.hv_job.specs.declared.job.Directive.TheVariants as directive
+use Rattle.hv_line.specs.declared.types.Directive.TheVariants as directive
 use Rattle.hv_job.specs.declared.job.Job.{Job}
 use Rattle.hv_job.specs.declared.job.Placed.{Placed}
 use Rattle.hv_samples.specs.declared.choice.Sample.TheVariants.{Pass}

@@ -6,7 +6,7 @@ ghost use Rattle.hv_load.specs.Answers.{Leaves, Passes};
 ghost use Rattle.hv_load.specs.Building.{nothing_built};
 ghost use Rattle.hv_load.specs.Build.{topped, with_top, GivesStart, can_watch as can_watch_of, command_fault as command_fault_of, command_of, done_of, ended, finished, named_of, part_of, parts_of, plan_of, towered_of, watch_asked, watch_fault as watch_fault_of};
 ghost use Rattle.hv_load.specs.Directives.{dump_of, event_of, hart_of, image_in, image_of as image_done, machine_of, made_in, mapped_of, started_of, watch_of, words_of};
-ghost use Rattle.hv_job.specs.IsJob.{IsRanged, IsSize};
+ghost use Rattle.hv_line.specs.Ranges.{IsRanged, IsSize};
 ghost use Rattle.hv_map.specs.Chain.{map_of};
 ghost use Rattle.hv_samples.specs.declared.choice.Sample.TheVariants.{Pass, Forward};
 

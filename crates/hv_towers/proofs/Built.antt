@@ -9,7 +9,7 @@ use Rattle.hv_store.specs.Access.{open_at}
 use Rattle.hv_map.specs.Chain.{pin_of}
 use Rattle.hv_map.specs.Seen.{seen}
 use Rattle.hv_map.proofs.Views.{length-seen, word_at-seen}
-use Rattle.hv_job.specs.declared.job.Directive.TheVariants as directive
+use Rattle.hv_line.specs.declared.types.Directive.TheVariants as directive
 use Rattle.hv_job.specs.declared.job.Job.{Job}
 use Rattle.hv_job.specs.declared.job.Placed.{Placed}
 use Rattle.hv_samples.specs.declared.choice.Sample.TheVariants.{Pass}

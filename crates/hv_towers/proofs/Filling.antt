@@ -12,8 +12,8 @@ use Rattle.hv_block.proofs.Words.{sets_outside}
 use Rattle.hv_map.specs.Chain.{map_of}
 use Rattle.hv_map.specs.declared.path.Watch.{Watch}
 use Rattle.hv_job.specs.IsJob.{count_of, is_watch}
-use Rattle.hv_job.specs.declared.job.Directive.{Directive}
-use Rattle.hv_job.specs.declared.job.Directive.TheVariants as directive
+use Rattle.hv_line.specs.declared.types.Directive.{Directive}
+use Rattle.hv_line.specs.declared.types.Directive.TheVariants as directive
 use Rattle.hv_job.specs.declared.job.Placed.{Placed}
 use Rattle.hv_load.specs.declared.ends.BuildKind.{BuildKind}
 use Rattle.hv_load.specs.declared.ends.BuildKind.TheVariants as kind

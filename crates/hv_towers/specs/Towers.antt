@@ -3,8 +3,8 @@ use Rattle.std.specs.Prelude.{◌≡◌, ℕ, ◌≤◌, List, [], ◌∷◌, re
 use Rattle.hv_limits.specs.Limits.{depth_limit, pages_limit}
 use Rattle.hv_cpu.specs.Regs.{reset_regs}
 use Rattle.hv_job.specs.IsJob.{count_of, is_watch}
-use Rattle.hv_job.specs.declared.job.Directive.{Directive}
-use Rattle.hv_job.specs.declared.job.Directive.TheVariants as directive
+use Rattle.hv_line.specs.declared.types.Directive.{Directive}
+use Rattle.hv_line.specs.declared.types.Directive.TheVariants as directive
 use Rattle.hv_job.specs.declared.job.Job.{Job}
 use Rattle.hv_job.specs.declared.job.Placed.{Placed}
 use Rattle.hv_load.specs.Build.{build_of}

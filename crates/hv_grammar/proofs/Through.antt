@@ -19,7 +19,9 @@ use Rattle.hv_grammar.proofs.Deeds.{Draft}
 use Rattle.hv_grammar.proofs.Formed.{storage_formed}
 use Rattle.hv_grammar.proofs.Inside.{Ends, before_next, ends_here, ends_next, no_end}
 use Rattle.hv_grammar.proofs.Steps.{Good, Stops, Whole, by_result, by_test, debug_says, end_says, goes_says, header_says, no_words, step, stops, unless}
-use Rattle.hv_grammar.proofs.Telling.{Says, Told, line_says, or_first, place_in}
+use Rattle.hv_grammar.specs.Within.{IsWithin, harts_lines}
+use Rattle.hv_job.proofs.Limiting.{IsReadJob, text_is}
+use Rattle.hv_grammar.proofs.Telling.{Says, Told, harts_count, line_says, or_first, place_in}
 
 -- The commands: nothing else is said among them.
 pub record AreCommands (commands : List Command) (n : ℕ) (all : List Command) (says : List Said) : Type 0 where
@@ -27,6 +29,7 @@ pub record AreCommands (commands : List Command) (n : ℕ) (all : List Command) 
   pub placed : placed_said n says ≡ []
   pub events : events_said says ≡ []
   pub harts : harts_said says ≡ None
+  pub counted : harts_lines says ≡ 0
   pub assembled : AreAssembled says
 
 record IsCommanded (commands next : List Command) (n : ℕ) (line : List ℕ) : Type 0 where
@@ -52,6 +55,7 @@ module _ (commands next : List Command) (n : ℕ) (line : List ℕ) where
           placed = are.placed;
           events = are.events;
           harts = are.harts;
+          counted = (let c : harts_lines says ≡ 0 = are.counted in omega (arith, c));
           assembled = (tt, are.assembled);
         };
       }
@@ -66,6 +70,7 @@ module _ (commands next : List Command) (n : ℕ) (line : List ℕ) where
       placed = are.placed;
       events = are.events;
       harts = are.harts;
+      counted = (let c : harts_lines says ≡ 0 = are.counted in omega (arith, c));
       assembled = (tt, are.assembled);
     };
   }
@@ -90,7 +95,7 @@ commands_good [] n commands = record {
   place = AmongCommands;
   goes_on = refl;
   over = tt;
-  holds = record { is = sym (append-nil commands); placed = refl; events = refl; harts = refl; assembled = tt };
+  holds = record { is = sym (append-nil commands); placed = refl; events = refl; harts = refl; counted = refl; assembled = tt };
 }
 commands_good (line ∷ lines) n commands =
     by_result (λ (r : Result (List Command) JobKind). Good AmongCommands n (line ∷ lines) (AreCommands commands n) (commands_then n r (λ next. commands_from next (n + 1) lines))) (line_commands commands n line)
@@ -110,8 +115,13 @@ job_behind draft n says = record {
 
 record IsBehind (draft : Draft) (inside : Bool) (lines : List (List ℕ)) (n : ℕ) (job : Job) (says : List Said) : Type 0 where
   is : job ≡ job_behind draft n says
+  counted : harts_count draft.harts + harts_lines says ≤ 1
   assembled : AreAssembled says
   inner : inside ≡ true → inner_lines says ≡ before_end lines
+
+at_most_one : (o : Option ℕ) → harts_count o ≤ 1
+at_most_one (Some n) = omega arith
+at_most_one None = omega arith
 
 none_first : (o : Option ℕ) → or_first o None ≡ o
 none_first (Some n) = refl
@@ -127,6 +137,7 @@ debugged draft n line lines commands says are = record {
     recording = (sym (append-nil draft.recording) ∙ ap (λ es. draft.recording ++ es) (sym are.events)) i;
     commands = are.is i;
   };
+  counted = (let one = at_most_one draft.harts in omega (arith, one, are.counted));
   assembled = (tt, are.assembled);
   inner = λ image. cc;
 }
@@ -146,6 +157,7 @@ ended draft n = record {
       recording = (sym (append-nil draft.recording)) i;
       commands = [];
     };
+    counted = (let one = at_most_one draft.harts in omega (arith, one));
     assembled = tt;
     inner = λ image. cc;
   };
@@ -161,6 +173,7 @@ module _ (line : List ℕ) (lines : List (List ℕ)) (rest : Going lines) (draft
       step InsideImage AmongDirectives n line lines Nothing (IsBehind draft true (line ∷ lines) n) (IsBehind draft false lines (n + 1)) (EndLine (ends_here line lines is ends) (end_says line is))
       (λ job says behind. record {
         is = behind.is;
+        counted = (let c : harts_count draft.harts + harts_lines says ≤ 1 = behind.counted in omega (arith, c));
         assembled = (tt, behind.assembled);
         inner = λ image. sym (before_next line lines ∙ ap (λ b. cond (not b) (line ∷ before_end lines) []) is);
       })
@@ -169,29 +182,31 @@ module _ (line : List ℕ) (lines : List (List ℕ)) (rest : Going lines) (draft
       step InsideImage InsideImage n line lines (Inner line) (IsBehind draft true (line ∷ lines) n) (IsBehind draft true lines (n + 1)) (InnerLine (goes_says line is))
       (λ job says behind. record {
         is = behind.is;
+        counted = (let c : harts_count draft.harts + harts_lines says ≤ 1 = behind.counted in omega (arith, c));
         assembled = (tt, behind.assembled);
         inner = λ image. ap (λ ls. line ∷ ls) (behind.inner refl) ∙ sym (before_next line lines ∙ ap (λ b. cond (not b) (line ∷ before_end lines) []) is);
       })
       (body_from draft true (n + 1) lines) (rest draft true (n + 1) (λ image. ends_next line lines is ends))
 
-  told_step : (image : Bool) (next : Draft) → (t : Told draft n line lines image next) → (job : Job) (says : List Said) → IsBehind next image lines (n + 1) job says → IsBehind draft false (line ∷ lines) n job (t.said ∷ says)
-  told_step image next t job says behind =
-      let placed : next.lines ≡ draft.lines ++ placed_by n t.said says = t.directives says behind.inner in
+  told_step : (image : Bool) (next : Draft) (it : Said) → (t : Told draft n line lines image it next) → (job : Job) (says : List Said) → IsBehind next image lines (n + 1) job says → IsBehind draft false (line ∷ lines) n job (it ∷ says)
+  told_step image next it t job says behind =
+      let placed : next.lines ≡ draft.lines ++ placed_by n it says = t.directives says behind.inner in
       record {
         is = behind.is ∙ (λ i. record {
           pages = t.pages i;
           harts = unwrap_or (t.harts (harts_said says) i) 1;
-          lines = (ap (λ ps. ps ++ placed_said (n + 1) says) placed ∙ append_assoc draft.lines (placed_by n t.said says) (placed_said (n + 1) says)) i;
-          recording = (ap (λ es. es ++ events_said says) t.events ∙ append_assoc draft.recording (events_by t.said) (events_said says)) i;
+          lines = (ap (λ ps. ps ++ placed_said (n + 1) says) placed ∙ append_assoc draft.lines (placed_by n it says) (placed_said (n + 1) says)) i;
+          recording = (ap (λ es. es ++ events_said says) t.events ∙ append_assoc draft.recording (events_by it) (events_said says)) i;
           commands = (ap (λ cs. cs ++ commands_said (n + 1) says) (sym t.calls)) i;
         });
+        counted = (let c = behind.counted in omega (arith, c, t.counted));
         assembled = (t.assembled says behind.inner, behind.assembled);
         inner = λ inside. cc;
       }
 
   said : (r : Result Draft (ℕ × JobKind)) → Says draft n line lines (begins_image line) r → Good AmongDirectives n (line ∷ lines) (IsBehind draft false (line ∷ lines) n) (and_then r (λ next. body_from next (begins_image line) (n + 1) lines))
-  said (Ok next) t =
-      step AmongDirectives (place_in (begins_image line)) n line lines t.said (IsBehind draft false (line ∷ lines) n) (IsBehind next (begins_image line) lines (n + 1)) t.goes (told_step (begins_image line) next t) (body_from next (begins_image line) (n + 1) lines) (rest next (begins_image line) (n + 1) t.ends)
+  said (Ok next) (it, t) =
+      step AmongDirectives (place_in (begins_image line)) n line lines it (IsBehind draft false (line ∷ lines) n) (IsBehind next (begins_image line) lines (n + 1)) t.goes (told_step (begins_image line) next it t) (body_from next (begins_image line) (n + 1) lines) (rest next (begins_image line) (n + 1) t.ends)
   said (Err refusal) stop = stop
 
   debug_step : IsAllowed line → words_of line ≡ codes "debug" ∷ [] → (r : Result (List Command) (ℕ × JobKind)) → Good AmongCommands (n + 1) lines (AreCommands [] (n + 1)) r → Good AmongDirectives n (line ∷ lines) (IsBehind draft false (line ∷ lines) n) (job_with draft r)
@@ -221,11 +236,12 @@ body_good (line ∷ lines) draft false n ends = directive_step line lines (body_
 -- the job is what is said from a line on
 record IsSaid (n : ℕ) (job : Job) (says : List Said) : Type 0 where
   is : job ≡ job_said n says
+  counted : harts_lines says ≤ 1
   assembled : AreAssembled says
 
 -- a line that says nothing
 more_said : (n : ℕ) (job : Job) (says : List Said) → IsSaid (n + 1) job says → IsSaid n job (Nothing ∷ says)
-more_said n job says is = record { is = is.is; assembled = (tt, is.assembled) }
+more_said n job says is = record { is = is.is; counted = (let c : harts_lines says ≤ 1 = is.counted in omega (arith, c)); assembled = (tt, is.assembled) }
 
 storage_good : (lines : List (List ℕ)) (n : ℕ) → Good BeforeStorage n lines (IsSaid n) (storage_from n lines)
 unfolding storage_from
@@ -236,7 +252,7 @@ storage_good (line ∷ lines) n =
     unless G (has_words line) _ _ (λ none. step BeforeStorage BeforeStorage n line lines Nothing (IsSaid n) (IsSaid (n + 1)) (NoWords tt allowed (no_words line none)) (more_said n) (storage_from (n + 1) lines) (storage_good lines (n + 1))) (λ some.
     by_result (λ (r : Result ℕ JobKind). Good BeforeStorage n (line ∷ lines) (IsSaid n) (behind_storage n lines r)) (storage_line_of (words_of line))
     (λ pages is. step BeforeStorage AmongDirectives n line lines (StorageOf pages) (IsSaid n) (IsBehind (draft_of pages) false lines (n + 1)) (StorageLine pages allowed (storage_formed (words_of line) pages is))
-    (λ job says behind. record { is = behind.is; assembled = (tt, behind.assembled) })
+    (λ job says behind. record { is = behind.is; counted = (let c = behind.counted in omega (arith, c)); assembled = (tt, behind.assembled) })
     (body_from (draft_of pages) false (n + 1) lines) (body_good lines (draft_of pages) false (n + 1) (λ image. cc)))
     (λ kind is. stops BeforeStorage n (line ∷ lines))))
 
@@ -256,19 +272,36 @@ text_good : (text : List ℕ) → Good BeforeHeader 1 (lines_of text) (IsSaid 1)
 unfolding job_of
 text_good text = header_good (lines_of text) 1
 
-told_of : (lines : List (List ℕ)) (job : Job) → Whole BeforeHeader lines (IsSaid 1 job) → IsTold lines job
-told_of lines job whole = record {
+within : (job : Job) (says : List Said) → job ≡ job_said 1 says → harts_lines says ≤ 1 → IsReadJob job → IsWithin says
+within job says is one read =
+    let r = subst IsReadJob is read in
+    record {
+      harts = one;
+      machines = r.is.machines;
+      watches = r.is.watches;
+      dumps = r.is.dumps;
+      images = r.is.images;
+      steps = r.steps;
+      events = r.many;
+      commands = r.is.commanded;
+      breaks = r.is.breaks;
+    }
+
+told_of : (lines : List (List ℕ)) (job : Job) → IsReadJob job → Whole BeforeHeader lines (IsSaid 1 job) → IsTold lines job
+told_of lines job read whole = record {
   says = whole.says;
   place = whole.place;
   goes_on = whole.goes_on;
   over = whole.over;
   assembled = whole.holds.assembled;
+  within = within job whole.says whole.holds.is whole.holds.counted read;
   is = whole.holds.is;
 }
 
 pub accepted : AcceptedTextLaw
 accepted text job is =
-    told_of (lines_of text) job (subst (λ (r : Result Job (ℕ × JobKind)). Good BeforeHeader 1 (lines_of text) (IsSaid 1) r) is (text_good text))
+    told_of (lines_of text) job (text_is text job is)
+    (subst (λ (r : Result Job (ℕ × JobKind)). Good BeforeHeader 1 (lines_of text) (IsSaid 1) r) is (text_good text))
 
 good_before : (lines : List (List ℕ)) (number : ℕ) → Stops BeforeHeader 1 lines number → AreGoodBefore lines number
 good_before lines number stop =

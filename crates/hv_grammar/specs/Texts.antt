@@ -9,6 +9,7 @@ use Rattle.hv_line.specs.declared.kinds.JobKind.TheVariants as fault
 use Rattle.hv_line.specs.declared.types.DebugCommand.{DebugCommand}
 use Rattle.hv_job.specs.declared.job.Job.{Job}
 use Rattle.hv_grammar.specs.Said.{AreAssembled, Said, Called, Directed, Inner, Nothing, StorageOf, job_said}
+use Rattle.hv_grammar.specs.Within.{IsWithin}
 use Rattle.hv_grammar.specs.Forms.{Form, Image, IsCall, IsLine, IsStorageLine}
 
 -- where a line stands
@@ -70,13 +71,15 @@ IsOver AmongDirectives = Unit {0}
 IsOver AmongCommands = Unit {0}
 IsOver _ = ⊥
 
--- the lines go through the places from the header on, and the job is what they say
+-- the lines go through the places from the header on, what they assemble is assembled, the limits are kept, and the job is
+-- what they say
 pub record IsTold (lines : List (List ℕ)) (job : Job) : Type 0 where
   pub says : List Said
   pub place : Place
   pub goes_on : GoesOn BeforeHeader lines says place
   pub over : IsOver place
   pub assembled : AreAssembled says
+  pub within : IsWithin says
   pub is : job ≡ job_said 1 says
 
 abbrev pub AcceptedTextLaw : Type 0

@@ -75,6 +75,7 @@ impl Display for JobKind {
 }
 
 /// Why a line isn't taken.
+#[derive(Drop)]
 pub enum JobLineEnd {
     /// It is refused.
     Fault(JobKind),

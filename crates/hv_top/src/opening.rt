@@ -52,41 +52,41 @@ fn started(alloc: Global, job: Job) -> Result<Opening, AllocError>
 }
 
 // Why a line of a job is refused.
-fn job_kind_text(kind: JobKind) -> &'static [u8]
+fn job_kind_text(kind: JobKind) -> &'static str
     ensures { result.now ≡ job_kind_text_of kind }
 {
     match kind {
-        JobKind::Byte => b"byte",
-        JobKind::Header => b"header",
-        JobKind::Storage => b"storage",
-        JobKind::Directive => b"directive",
-        JobKind::Words => b"words",
-        JobKind::Name => b"name",
-        JobKind::Number => b"number",
-        JobKind::Range => b"range",
-        JobKind::Repeat => b"repeat",
-        JobKind::Many => b"many",
-        JobKind::Open => b"open",
-        JobKind::Syntax => b"syntax",
-        JobKind::Mnemonic => b"mnemonic",
-        JobKind::Operand => b"operand",
-        JobKind::Label => b"label",
+        JobKind::Byte => "byte",
+        JobKind::Header => "header",
+        JobKind::Storage => "storage",
+        JobKind::Directive => "directive",
+        JobKind::Words => "words",
+        JobKind::Name => "name",
+        JobKind::Number => "number",
+        JobKind::Range => "range",
+        JobKind::Repeat => "repeat",
+        JobKind::Many => "many",
+        JobKind::Open => "open",
+        JobKind::Syntax => "syntax",
+        JobKind::Mnemonic => "mnemonic",
+        JobKind::Operand => "operand",
+        JobKind::Label => "label",
     }
 }
 
 // Why a directive can't be done.
-fn build_kind_text(kind: BuildKind) -> &'static [u8]
+fn build_kind_text(kind: BuildKind) -> &'static str
     ensures { result.now ≡ build_kind_text_of kind }
 {
     match kind {
-        BuildKind::Hart => b"hart",
-        BuildKind::Many => b"many",
-        BuildKind::Unknown => b"unknown",
-        BuildKind::Depth => b"depth",
-        BuildKind::Repeat => b"repeat",
-        BuildKind::Outside => b"outside",
-        BuildKind::Absent => b"absent",
-        BuildKind::Overlap => b"overlap",
-        BuildKind::Watch => b"watch",
+        BuildKind::Hart => "hart",
+        BuildKind::Many => "many",
+        BuildKind::Unknown => "unknown",
+        BuildKind::Depth => "depth",
+        BuildKind::Repeat => "repeat",
+        BuildKind::Outside => "outside",
+        BuildKind::Absent => "absent",
+        BuildKind::Overlap => "overlap",
+        BuildKind::Watch => "watch",
     }
 }

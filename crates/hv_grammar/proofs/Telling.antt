@@ -9,20 +9,21 @@ use Rattle.hv_irq.specs.declared.Event.TheVariants as event
 use Rattle.hv_irq.specs.declared.PushEnd.{PushEnd}
 use Rattle.hv_samples.specs.Samples.{sample_text}
 use Rattle.hv_samples.specs.declared.choice.Sample.{Sample}
-use Rattle.hv_job.specs.Asked.{asked_of}
-use Rattle.hv_job.specs.JobOf.{at_line, before_end, begins_image, event_with, happened, harts_with, image_added, image_of, image_with, image_words, is_end, is_image, is_many, line_with, lines_with, placed, sample_with, words_with}
-use Rattle.hv_job.specs.Lines.{begins_with, has_words, is_allowed, words_of}
-use Rattle.hv_job.specs.declared.ends.JobKind.{JobKind}
-use Rattle.hv_job.specs.declared.ends.JobKind.TheVariants as fault
-use Rattle.hv_job.specs.declared.job.Directive.{Directive}
-use Rattle.hv_job.specs.declared.job.Directive.TheVariants as directive
-use Rattle.hv_grammar.specs.Forms.{Form, IsLine, Storage, Harts, Image, Sampled, Turn, Lines}
+use Rattle.hv_line.specs.Statements.{statement_of}
+use Rattle.hv_job.specs.JobOf.{at_line, before_end, begins_image, event_directive, event_with, schedule_with, harts_with, image_lines_with, image_of, image_with, image_words, is_end, is_image, is_many, line_with, lines_with, directive_with, sample_with, words_with}
+use Rattle.hv_line.specs.Lines.{begins_with, has_words, is_allowed, words_of}
+use Rattle.hv_line.specs.declared.kinds.JobKind.{JobKind}
+use Rattle.hv_line.specs.declared.kinds.JobKind.TheVariants as fault
+use Rattle.hv_line.specs.declared.types.Statement.{Statement}
+use Rattle.hv_line.specs.declared.types.Directive.{Directive}
+use Rattle.hv_line.specs.declared.types.Directive.TheVariants as directive
+use Rattle.hv_grammar.specs.Forms.{Form, IsLine, Harts, Image, Sampled, Turn, Lines, states_for}
 use Rattle.hv_grammar.specs.Said.{AssemblesWith, Said, Directed, Inner, Nothing, IsAssembled, assembled, commands_by, directives_by, events_by, harts_by, inner_lines, on_line, placed_by}
 use Rattle.hv_grammar.specs.Texts.{Goes, IsAllowed, Place, AmongDirectives, InsideImage, NoWords, DirectiveLine, ImageLine}
 use Rattle.hv_grammar.proofs.Deeds.{Draft, does}
 use Rattle.hv_grammar.proofs.Formed.{Formed, words_formed}
 use Rattle.hv_grammar.proofs.Inside.{Ends, before_few, image_at, inner_goes}
-use Rattle.hv_grammar.proofs.Means.{Asked, form_means, is_image_form}
+use Rattle.hv_grammar.proofs.Means.{form_means, is_image_form}
 use Rattle.hv_grammar.proofs.Steps.{Stops, by_result, by_test, no_words, stops, unless}
 
 -- where the lines behind a line stand
@@ -33,6 +34,11 @@ place_in false = AmongDirectives
 abbrev pub or_first : Option ℕ → Option ℕ → Option ℕ
 or_first (Some n) more = Some n
 or_first None more = more
+
+-- which forms begin an image
+pub image_form : (form : Form) → is_image (Ok (states_for form)) ≡ is_image_form form
+image_form (Harts harts) = refl
+image_form form = refl
 
 -- what a line tells: where it goes, and the draft that it makes
 pub record Told (draft : Draft) (n : ℕ) (line : List ℕ) (lines : List (List ℕ)) (image : Bool) (next : Draft) : Type 0 where
@@ -86,8 +92,8 @@ module _ (draft : Draft) (n : ℕ) (line : List ℕ) (lines : List (List ℕ)) w
       assembled = λ behind inner. ap (λ ls. is_ok (image_words base ls)) (inner refl) ∙ ap is_ok is;
     }
 
-    end_told : (last words : List ℕ) → find is_end lines ≡ Some last → image_words base (before_end lines) ≡ Ok words → Says draft n line lines true (at_line (n + 1 + length (before_end lines)) (cond (is_allowed last) (placed draft n (directive.Image name (record { base = base; words = words }))) (Err fault.Byte)))
-    unfolding placed
+    end_told : (last words : List ℕ) → find is_end lines ≡ Some last → image_words base (before_end lines) ≡ Ok words → Says draft n line lines true (at_line (n + 1 + length (before_end lines)) (cond (is_allowed last) (directive_with draft n (directive.Image name (record { base = base; words = words }))) (Err fault.Byte)))
+    unfolding directive_with
     end_told last words found is =
         by_test (λ (r : Result Draft JobKind). Says draft n line lines true (at_line (n + 1 + length (before_end lines)) r)) (is_allowed last) _ _
         (λ allowed. image_told last words found allowed is (is_many draft.lines (directive.Image name (record { base = base; words = words }))))
@@ -105,13 +111,13 @@ module _ (draft : Draft) (n : ℕ) (line : List ℕ) (lines : List (List ℕ)) w
         by_result (λ (r : Result (List ℕ) (ℕ × AsmKind)). Says draft n line lines true (image_with draft n (n + 1 + length (before_end lines)) last name base r)) (image_words base (before_end lines))
         (λ words is. end_told last words found is) (λ refusal is. inside refusal.0 refusal.1 is)
 
-    image_says : Says draft n line lines true (image_added draft n name base lines)
-    unfolding image_added
+    image_says : Says draft n line lines true (image_lines_with draft n name base lines)
+    unfolding image_lines_with
     image_says = image_given (find is_end lines) refl
 
   -- a directive without an event
-  placed_told : (form : Form) (what : Directive) → Goes AmongDirectives line (Directed form) AmongDirectives → ((behind : List Said) → directives_by form behind ≡ what ∷ []) → events_by (Directed form) ≡ [] → ((more : Option ℕ) → harts_by (Directed form) more ≡ more) → ((behind : List Said) → IsAssembled form behind) → Says draft n line lines false (at_line n (placed draft n what))
-  unfolding placed
+  placed_told : (form : Form) (what : Directive) → Goes AmongDirectives line (Directed form) AmongDirectives → ((behind : List Said) → directives_by form behind ≡ what ∷ []) → events_by (Directed form) ≡ [] → ((more : Option ℕ) → harts_by (Directed form) more ≡ more) → ((behind : List Said) → IsAssembled form behind) → Says draft n line lines false (at_line n (directive_with draft n what))
+  unfolding directive_with
   placed_told form what goes one none same assembles =
       by_test (λ (r : Result Draft JobKind). Says draft n line lines false (at_line n r)) (is_many draft.lines what) _ _ (λ many. refused) (λ few. record {
         said = Directed form;
@@ -133,9 +139,9 @@ module _ (draft : Draft) (n : ℕ) (line : List ℕ) (lines : List (List ℕ)) w
   sample_told name at which goes (Err refusal) is = refused
 
   -- an event
-  event_told : (form : Form) (what : Directive) (new : Event) → Goes AmongDirectives line (Directed form) AmongDirectives → ((behind : List Said) → directives_by form behind ≡ what ∷ []) → events_by (Directed form) ≡ new ∷ [] → ((more : Option ℕ) → harts_by (Directed form) more ≡ more) → ((behind : List Said) → IsAssembled form behind) → (o : Option PushEnd) → Says draft n line lines false (at_line n (event_with draft n what new o))
-  event_told form what new goes one some same assembles (Some end) = refused
-  event_told form what new goes one some same assembles None = record {
+  event_told : (form : Form) (new : Event) → Goes AmongDirectives line (Directed form) AmongDirectives → ((behind : List Said) → directives_by form behind ≡ event_directive new ∷ []) → events_by (Directed form) ≡ new ∷ [] → ((more : Option ℕ) → harts_by (Directed form) more ≡ more) → ((behind : List Said) → IsAssembled form behind) → (o : Option PushEnd) → Says draft n line lines false (at_line n (event_with draft n new o))
+  event_told form new goes one some same assembles (Some end) = refused
+  event_told form new goes one some same assembles None = record {
     said = Directed form;
     goes = goes;
     ends = λ image. cc;
@@ -147,10 +153,10 @@ module _ (draft : Draft) (n : ℕ) (line : List ℕ) (lines : List (List ℕ)) w
     assembled = λ behind inner. assembles behind;
   }
 
-  happened_told : (form : Form) (what : Directive) (new : Event) → Goes AmongDirectives line (Directed form) AmongDirectives → ((behind : List Said) → directives_by form behind ≡ what ∷ []) → events_by (Directed form) ≡ new ∷ [] → ((more : Option ℕ) → harts_by (Directed form) more ≡ more) → ((behind : List Said) → IsAssembled form behind) → Says draft n line lines false (at_line n (happened draft n what new))
-  unfolding happened
-  happened_told form what new goes one some same assembles =
-      event_told form what new goes one some same assembles (refusal_of draft.recording new)
+  schedule_told : (form : Form) (new : Event) → Goes AmongDirectives line (Directed form) AmongDirectives → ((behind : List Said) → directives_by form behind ≡ event_directive new ∷ []) → events_by (Directed form) ≡ new ∷ [] → ((more : Option ℕ) → harts_by (Directed form) more ≡ more) → ((behind : List Said) → IsAssembled form behind) → Says draft n line lines false (at_line n (schedule_with draft n new))
+  unfolding schedule_with
+  schedule_told form new goes one some same assembles =
+      event_told form new goes one some same assembles (refusal_of draft.recording new)
 
   -- the number of harts
   harts_told : (harts : ℕ) → Goes AmongDirectives line (Directed (Harts harts)) AmongDirectives → (o : Option ℕ) → draft.harts ≡ o → Says draft n line lines false (at_line n (harts_with draft harts o))
@@ -168,29 +174,28 @@ module _ (draft : Draft) (n : ℕ) (line : List ℕ) (lines : List (List ℕ)) w
   }
 
   does_says : (form : Form) → IsAllowed line → IsLine (words_of line) form → Says draft n line lines (is_image_form form) (does draft n lines form)
-  does_says (Storage pages) allowed is = refused
   does_says (Harts harts) allowed is = harts_told harts (DirectiveLine (Harts harts) tt allowed is) draft.harts refl
   does_says (Image name at) allowed is = image_says name at (ImageLine name at allowed is)
   does_says (Sampled name at which) allowed is =
       sample_told name at which (DirectiveLine (Sampled name at which) tt allowed is) (asm_of (sample_text which) at) refl
   does_says (Turn hart count) allowed is =
-      happened_told (Turn hart count) (directive.Turn hart) (event.Turn hart count) (DirectiveLine (Turn hart count) tt allowed is) (λ behind. refl) refl (λ more. refl) (λ behind. tt)
+      schedule_told (Turn hart count) (event.Turn hart count) (DirectiveLine (Turn hart count) tt allowed is) (λ behind. refl) refl (λ more. refl) (λ behind. tt)
   does_says (Lines hart mask) allowed is =
-      happened_told (Lines hart mask) (directive.Lines hart) (event.Lines hart mask) (DirectiveLine (Lines hart mask) tt allowed is) (λ behind. refl) refl (λ more. refl) (λ behind. tt)
+      schedule_told (Lines hart mask) (event.Lines hart mask) (DirectiveLine (Lines hart mask) tt allowed is) (λ behind. refl) refl (λ more. refl) (λ behind. tt)
   does_says form allowed is =
       placed_told form _ (DirectiveLine form tt allowed is) (λ behind. refl) refl (λ more. refl) (λ behind. tt)
 
-  asked_says : (asked : Asked) → IsAllowed line → asked_of (words_of line) ≡ Ok asked → Says draft n line lines (begins_image line) (words_with draft n lines (asked_of (words_of line)))
+  asked_says : (asked : Statement) → IsAllowed line → statement_of (words_of line) ≡ Ok asked → Says draft n line lines (begins_image line) (words_with draft n lines (statement_of (words_of line)))
   unfolding begins_image
   asked_says asked allowed is =
       let f : Formed (words_of line) = words_formed (words_of line) asked is in
       let m = form_means f.0 (words_of line) f.1 in
-      subst (λ b. Says draft n line lines b (words_with draft n lines (asked_of (words_of line)))) (sym m.image)
-      (subst (Says draft n line lines (is_image_form f.0)) (sym (m.deeds draft n lines)) (does_says f.0 allowed f.1))
+      subst (λ (r : Result Statement JobKind). Says draft n line lines (is_image r) (words_with draft n lines r)) (sym m)
+      (subst (λ b. Says draft n line lines b (does draft n lines f.0)) (sym (image_form f.0)) (does_says f.0 allowed f.1))
 
   no_image : words_of line ≡ [] → begins_image line ≡ false
-  unfolding begins_image asked_of
-  no_image none = ap (λ words. is_image (asked_of words)) none
+  unfolding begins_image statement_of
+  no_image none = ap (λ words. is_image (statement_of words)) none
 
   skipped : IsAllowed line → words_of line ≡ [] → Told draft n line lines (begins_image line) draft
   skipped allowed none =
@@ -207,16 +212,15 @@ module _ (draft : Draft) (n : ℕ) (line : List ℕ) (lines : List (List ℕ)) w
         assembled = λ behind inner. tt;
       })
 
-  given : IsAllowed line → (r : Result Asked JobKind) → asked_of (words_of line) ≡ r → Says draft n line lines (begins_image line) (words_with draft n lines (asked_of (words_of line)))
+  given : IsAllowed line → (r : Result Statement JobKind) → statement_of (words_of line) ≡ r → Says draft n line lines (begins_image line) (words_with draft n lines (statement_of (words_of line)))
   given allowed (Ok asked) is = asked_says asked allowed is
   given allowed (Err kind) is =
-      subst (λ (r : Result Asked JobKind). Says draft n line lines (begins_image line) (words_with draft n lines r)) (sym is) refused
+      subst (λ (r : Result Statement JobKind). Says draft n line lines (begins_image line) (words_with draft n lines r)) (sym is) refused
 
   pub line_says : Says draft n line lines (begins_image line) (line_with draft n line lines)
   unfolding line_with
   line_says =
       unless (Says draft n line lines (begins_image line)) (is_allowed line) _ _ (λ no. refused) (λ allowed.
       unless (Says draft n line lines (begins_image line)) (has_words line) _ _ (λ none. skipped allowed (no_words line none)) (λ some.
-      by_test (Says draft n line lines (begins_image line)) (begins_with (codes "storage") (words_of line)) _ _ (λ storage. refused) (λ other.
       by_test (Says draft n line lines (begins_image line)) (begins_with (codes "debug") (words_of line)) _ _ (λ debug. refused) (λ directive.
-      given allowed (asked_of (words_of line)) refl))))
+      given allowed (statement_of (words_of line)) refl)))

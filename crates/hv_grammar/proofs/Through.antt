@@ -1,24 +1,23 @@
 -- The way of a text through its places, and what its lines say.
 use Rattle.std.proofs.Common.{◌≡◌, ℕ, ◌+◌, ◌-◌, ◌≤◌, Bool, true, false, not, cond, codes, List, [], ◌∷◌, ◌++◌, length, take, unwrap_or, Option, Some, None, Result, Ok, Err, refl, sym, ap, ◌∙◌, subst, arith, append-nil, append_assoc}
 use Rattle.hv_lex.specs.Lines.{lines_of}
-use Rattle.hv_job.specs.Asked.{asked_of}
-use Rattle.hv_job.specs.Commands.{command_of, command_with, commands_from, commands_then, commands_with, entered, is_over, joined}
-use Rattle.hv_job.specs.JobOf.{and_then, before_end, begins_image, body_from, draft_of, header_from, is_debug, is_end, job_in, job_of, job_with, line_with, pages_of, storage_from, storage_pages, storage_with}
-use Rattle.hv_job.specs.Lines.{begins_with, has_words, is_allowed, is_header, words_of}
-use Rattle.hv_job.specs.declared.ends.JobKind.{JobKind}
-use Rattle.hv_job.specs.declared.ends.JobKind.TheVariants as fault
-use Rattle.hv_job.specs.declared.job.DebugCommand.{DebugCommand}
+use Rattle.hv_line.specs.Statements.{storage_line_of}
+use Rattle.hv_line.specs.Commands.{command_of, join_words_of}
+use Rattle.hv_job.specs.Commands.{line_commands, commands_from, commands_then, commands_with, new_commands, is_over}
+use Rattle.hv_job.specs.JobOf.{and_then, before_end, begins_image, body_from, draft_of, header_from, is_debug, is_end, job_in, job_of, job_with, line_with, storage_from, behind_storage}
+use Rattle.hv_line.specs.Lines.{has_words, is_allowed, is_header, words_of}
+use Rattle.hv_line.specs.declared.kinds.JobKind.{JobKind}
+use Rattle.hv_line.specs.declared.kinds.JobKind.TheVariants as fault
+use Rattle.hv_line.specs.declared.types.DebugCommand.{DebugCommand}
 use Rattle.hv_job.specs.declared.job.DebugLine.{DebugLine as Command}
 use Rattle.hv_job.specs.declared.job.Job.{Job}
-use Rattle.hv_job.proofs.Ranging.{then_ok}
-use Rattle.hv_grammar.specs.Forms.{Form, IsLine, Storage, Harts}
-use Rattle.hv_grammar.specs.Said.{AreAssembled, Said, Called, Directed, Inner, Nothing, commands_by, commands_said, events_by, events_said, harts_said, inner_lines, job_said, placed_by, placed_said}
+use Rattle.hv_line.proofs.Ranging.{then_ok}
+use Rattle.hv_grammar.specs.Said.{AreAssembled, Said, Called, Inner, Nothing, StorageOf, commands_by, commands_said, events_by, events_said, harts_said, inner_lines, job_said, placed_by, placed_said}
 use Rattle.hv_grammar.specs.Texts.{AcceptedTextLaw, AreGoodBefore, Goes, GoesOn, IsAllowed, IsTold, RefusedTextLaw, AmongCommands, AmongDirectives, BeforeHeader, BeforeStorage, InsideImage, NoWords, Header, StorageLine, InnerLine, EndLine, DebugLine, CommandLine}
 use Rattle.hv_grammar.proofs.Calls.{words_call}
 use Rattle.hv_grammar.proofs.Deeds.{Draft}
-use Rattle.hv_grammar.proofs.Formed.{words_formed}
+use Rattle.hv_grammar.proofs.Formed.{storage_formed}
 use Rattle.hv_grammar.proofs.Inside.{Ends, before_next, ends_here, ends_next, no_end}
-use Rattle.hv_grammar.proofs.Means.{Asked, form_means, form_pages}
 use Rattle.hv_grammar.proofs.Steps.{Good, Stops, Whole, by_result, by_test, debug_says, end_says, goes_says, header_says, no_words, step, stops, unless}
 use Rattle.hv_grammar.proofs.Telling.{Says, Told, line_says, or_first, place_in}
 
@@ -57,7 +56,7 @@ module _ (commands next : List Command) (n : ℕ) (line : List ℕ) where
         };
       }
 
-  commanded : (what : DebugCommand) → IsAllowed line → command_of (words_of line) ≡ Ok what → next ≡ commands_with commands n (joined (words_of line)) what → IsCommanded commands next n line
+  commanded : (what : DebugCommand) → IsAllowed line → command_of (words_of line) ≡ Ok what → next ≡ commands_with commands n (join_words_of (words_of line)) what → IsCommanded commands next n line
   commanded what allowed is made = record {
     said = Called (words_of line) what;
     goes = CommandLine what allowed (words_call (words_of line) what is);
@@ -71,17 +70,17 @@ module _ (commands next : List Command) (n : ℕ) (line : List ℕ) where
     };
   }
 
-  entered_is : (what : DebugCommand) (words : List (List ℕ)) (b : Bool) → (let r : Result (List Command) JobKind = cond b (Err fault.Many) (Ok (commands_with commands n (joined words) what)) in r) ≡ Ok next → next ≡ commands_with commands n (joined words) what
+  entered_is : (what : DebugCommand) (words : List (List ℕ)) (b : Bool) → (let r : Result (List Command) JobKind = cond b (Err fault.Many) (Ok (commands_with commands n (join_words_of words) what)) in r) ≡ Ok next → next ≡ commands_with commands n (join_words_of words) what
   entered_is what words true is = cc
   entered_is what words false is = cc
 
-  command_is : command_with commands n line ≡ Ok next → IsCommanded commands next n line
-  unfolding command_with
+  command_is : line_commands commands n line ≡ Ok next → IsCommanded commands next n line
+  unfolding line_commands
   command_is =
       let R = λ (r : Result (List Command) JobKind). r ≡ Ok next → IsCommanded commands next n line in
       unless R (is_allowed line) (Err fault.Byte) _ (λ no is. cc) (λ allowed.
       unless R (has_words line) (Ok commands) _ (λ none is. let same : commands ≡ next = cc in skipped allowed (no_words line none) same) (λ some is.
-      let s = then_ok (command_of (words_of line)) (entered commands n (words_of line)) next is in
+      let s = then_ok (command_of (words_of line)) (new_commands commands n (words_of line)) next is in
       commanded s.0 allowed s.1 (entered_is s.0 (words_of line) (is_over commands s.0) s.2)))
 
 commands_good : (lines : List (List ℕ)) (n : ℕ) (commands : List Command) → Good AmongCommands n lines (AreCommands commands n) (commands_from commands n lines)
@@ -94,7 +93,7 @@ commands_good [] n commands = record {
   holds = record { is = sym (append-nil commands); placed = refl; events = refl; harts = refl; assembled = tt };
 }
 commands_good (line ∷ lines) n commands =
-    by_result (λ (r : Result (List Command) JobKind). Good AmongCommands n (line ∷ lines) (AreCommands commands n) (commands_then n r (λ next. commands_from next (n + 1) lines))) (command_with commands n line)
+    by_result (λ (r : Result (List Command) JobKind). Good AmongCommands n (line ∷ lines) (AreCommands commands n) (commands_then n r (λ next. commands_from next (n + 1) lines))) (line_commands commands n line)
     (λ next is. let c = command_is commands next n line is in
     step AmongCommands AmongCommands n line lines c.said (AreCommands commands n) (AreCommands next (n + 1)) c.goes c.more (commands_from next (n + 1) lines) (commands_good lines (n + 1) next))
     (λ kind is. stops AmongCommands n (line ∷ lines))
@@ -219,25 +218,6 @@ body_good [] draft false n ends = ended draft n
 body_good (line ∷ lines) draft true n ends = inside_step line lines (body_good lines) draft n (ends refl) (is_end line) refl
 body_good (line ∷ lines) draft false n ends = directive_step line lines (body_good lines) draft n
 
--- the storage
-storage_form : (form : Form) (pages : ℕ) (words : List (List ℕ)) → IsLine words form → form_pages form ≡ Ok pages → IsLine words (Storage pages)
-storage_form (Storage p) pages words line is = let e : p ≡ pages = cc in subst (λ p. IsLine words (Storage p)) e line
-storage_form (Harts harts) pages words line is = cc
-storage_form _ pages words line is = cc
-
-asked_pages : (words : List (List ℕ)) (pages : ℕ) (r : Result Asked JobKind) → asked_of words ≡ r → pages_of r ≡ Ok pages → IsLine words (Storage pages)
-asked_pages words pages (Ok asked) is found =
-    let f = words_formed words asked is in
-    let m = form_means f.0 words f.1 in
-    storage_form f.0 pages words f.1 (sym m.pages ∙ ap pages_of is ∙ found)
-asked_pages words pages (Err kind) is found = cc
-
-pages_line : (words : List (List ℕ)) (pages : ℕ) → storage_pages words ≡ Ok pages → IsLine words (Storage pages)
-unfolding storage_pages
-pages_line words pages =
-    by_test (λ (r : Result ℕ JobKind). r ≡ Ok pages → IsLine words (Storage pages)) (begins_with (codes "storage") words) _ _
-    (λ first is. asked_pages words pages (asked_of words) refl is) (λ other is. cc)
-
 -- the job is what is said from a line on
 record IsSaid (n : ℕ) (job : Job) (says : List Said) : Type 0 where
   is : job ≡ job_said n says
@@ -254,8 +234,8 @@ storage_good (line ∷ lines) n =
     let G = λ (r : Result Job (ℕ × JobKind)). Good BeforeStorage n (line ∷ lines) (IsSaid n) r in
     unless G (is_allowed line) _ _ (λ no. stops BeforeStorage n (line ∷ lines)) (λ allowed.
     unless G (has_words line) _ _ (λ none. step BeforeStorage BeforeStorage n line lines Nothing (IsSaid n) (IsSaid (n + 1)) (NoWords tt allowed (no_words line none)) (more_said n) (storage_from (n + 1) lines) (storage_good lines (n + 1))) (λ some.
-    by_result (λ (r : Result ℕ JobKind). Good BeforeStorage n (line ∷ lines) (IsSaid n) (storage_with n lines r)) (storage_pages (words_of line))
-    (λ pages is. step BeforeStorage AmongDirectives n line lines (Directed (Storage pages)) (IsSaid n) (IsBehind (draft_of pages) false lines (n + 1)) (StorageLine pages allowed (pages_line (words_of line) pages is))
+    by_result (λ (r : Result ℕ JobKind). Good BeforeStorage n (line ∷ lines) (IsSaid n) (behind_storage n lines r)) (storage_line_of (words_of line))
+    (λ pages is. step BeforeStorage AmongDirectives n line lines (StorageOf pages) (IsSaid n) (IsBehind (draft_of pages) false lines (n + 1)) (StorageLine pages allowed (storage_formed (words_of line) pages is))
     (λ job says behind. record { is = behind.is; assembled = (tt, behind.assembled) })
     (body_from (draft_of pages) false (n + 1) lines) (body_good lines (draft_of pages) false (n + 1) (λ image. cc)))
     (λ kind is. stops BeforeStorage n (line ∷ lines))))

@@ -3,13 +3,13 @@
 use Rattle.std.specs.Prelude.{◌≡◌, ◌≢◌, ℕ, ◌-◌, ◌≤◌, true, List, [], ◌∷◌, length, take, codes, Ok, Err}
 use Rattle.hv_lex.specs.Lines.{lines_of}
 use Rattle.hv_job.specs.JobOf.{job_of}
-use Rattle.hv_job.specs.Lines.{is_allowed, words_of}
-use Rattle.hv_job.specs.declared.ends.JobKind.{JobKind}
-use Rattle.hv_job.specs.declared.ends.JobKind.TheVariants as fault
-use Rattle.hv_job.specs.declared.job.DebugCommand.{DebugCommand}
+use Rattle.hv_line.specs.Lines.{is_allowed, words_of}
+use Rattle.hv_line.specs.declared.kinds.JobKind.{JobKind}
+use Rattle.hv_line.specs.declared.kinds.JobKind.TheVariants as fault
+use Rattle.hv_line.specs.declared.types.DebugCommand.{DebugCommand}
 use Rattle.hv_job.specs.declared.job.Job.{Job}
-use Rattle.hv_grammar.specs.Said.{AreAssembled, Said, Called, Directed, Inner, Nothing, job_said}
-use Rattle.hv_grammar.specs.Forms.{Form, Image, Storage, IsCall, IsLine}
+use Rattle.hv_grammar.specs.Said.{AreAssembled, Said, Called, Directed, Inner, Nothing, StorageOf, job_said}
+use Rattle.hv_grammar.specs.Forms.{Form, Image, IsCall, IsLine, IsStorageLine}
 
 -- where a line stands
 pub data Place : Type 0 where
@@ -24,9 +24,8 @@ abbrev pub IsOutside : Place → Type 0
 IsOutside InsideImage = ⊥
 IsOutside _ = Unit {0}
 
--- a directive on one line that isn't the storage's
+-- a directive on one line
 abbrev pub IsPlain : Form → Type 0
-IsPlain (Storage pages) = ⊥
 IsPlain (Image name at) = ⊥
 IsPlain _ = Unit {0}
 
@@ -45,7 +44,7 @@ pub data Goes : Place → List ℕ → Said → Place → Type 0 where
   -- job 1
   Header : {line : List ℕ} → IsAllowed line → words_of line ≡ codes "job" ∷ codes "1" ∷ [] → Goes BeforeHeader line Nothing BeforeStorage
   -- storage P
-  StorageLine : {line : List ℕ} (pages : ℕ) → IsAllowed line → IsLine (words_of line) (Storage pages) → Goes BeforeStorage line (Directed (Storage pages)) AmongDirectives
+  StorageLine : {line : List ℕ} (pages : ℕ) → IsAllowed line → IsStorageLine (words_of line) pages → Goes BeforeStorage line (StorageOf pages) AmongDirectives
   -- any other directive but an image
   DirectiveLine : {line : List ℕ} (form : Form) → IsPlain form → IsAllowed line → IsLine (words_of line) form → Goes AmongDirectives line (Directed form) AmongDirectives
   -- image NAME A

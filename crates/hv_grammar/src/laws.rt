@@ -1,11 +1,17 @@
 //! What a job's lines look like. Each function here is empty: it states one law, which is proved.
 
-ghost use Rattle.hv_grammar.specs.Forms.{CommandFormLaw, LineFormLaw};
+ghost use Rattle.hv_grammar.specs.Forms.{CommandFormLaw, LineFormLaw, StorageFormLaw};
 ghost use Rattle.hv_grammar.specs.Texts.{AcceptedTextLaw, RefusedTextLaw, ThroughTextLaw};
 
-/// A line asks for something exactly where its words are those of a form, with every value in its range.
+/// A line among the directives says something exactly where its words are those of a form that says it, with every value in
+/// its range.
 pub fn lines_are_their_forms()
     ensures { LineFormLaw }
+{}
+
+/// A line gives the pages of the storage exactly where its words are `storage` and their number, in its range.
+pub fn the_storage_is_its_form()
+    ensures { StorageFormLaw }
 {}
 
 /// A line is a command of the debugger exactly where its words are those of a form of that command, in range.

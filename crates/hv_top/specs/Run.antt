@@ -2,7 +2,7 @@
 use Rattle.std.specs.Prelude.{ℕ, List, Result, Ok, Err}
 use Rattle.hv_job.specs.JobOf.{job_of}
 use Rattle.hv_job.specs.declared.job.Job.{Job}
-use Rattle.hv_job.specs.declared.ends.JobKind.{JobKind}
+use Rattle.hv_line.specs.declared.kinds.JobKind.{JobKind}
 use Rattle.hv_load.specs.Build.{build_of}
 use Rattle.hv_load.specs.declared.ends.BuildKind.{BuildKind}
 use Rattle.hv_load.specs.declared.start.Start.{Start}

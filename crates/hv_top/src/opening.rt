@@ -3,11 +3,11 @@
 ghost use Rattle.std.specs.Prelude.{◌≡◌, ◌≤◌, length, IfOk};
 ghost use Rattle.hv_limits.specs.Limits.{input_limit};
 ghost use Rattle.hv_job.specs.IsJob.{IsJob};
-ghost use Rattle.hv_top.specs.Jobs.{build_kind_text as build_kind_text_of, job_kind_text as job_kind_text_of};
+ghost use Rattle.hv_top.specs.Jobs.{build_kind_text as build_kind_text_of};
 ghost use Rattle.hv_top.specs.Opening.{IsOpening, IsStarting};
 
 use crate::answer::{Answer, refused};
-use hv_job::{Job, JobEnd, JobKind, parse_job};
+use hv_job::{Job, JobEnd, parse_job};
 use hv_load::{BuildEnd, BuildKind, Start, build};
 use std::alloc::{AllocError, Global};
 
@@ -28,7 +28,7 @@ pub fn opened(alloc: Global, input: &[u8]) -> Result<Opening, AllocError>
     match parse_job(alloc, input) {
         Ok(job) => started(alloc, job),
         Err(JobEnd::JobFault { line, kind }) => {
-            let answer = refused(alloc, line, job_kind_text(kind))?;
+            let answer = refused(alloc, line, kind.word())?;
             Ok(Opening::Refused(answer))
         }
         Err(JobEnd::Memory) => Err(AllocError),
@@ -48,29 +48,6 @@ fn started(alloc: Global, job: Job) -> Result<Opening, AllocError>
             Ok(Opening::Refused(answer))
         }
         Err(BuildEnd::Memory) => Err(AllocError),
-    }
-}
-
-// Why a line of a job is refused.
-fn job_kind_text(kind: JobKind) -> &'static str
-    ensures { result.now ≡ job_kind_text_of kind }
-{
-    match kind {
-        JobKind::Byte => "byte",
-        JobKind::Header => "header",
-        JobKind::Storage => "storage",
-        JobKind::Directive => "directive",
-        JobKind::Words => "words",
-        JobKind::Name => "name",
-        JobKind::Number => "number",
-        JobKind::Range => "range",
-        JobKind::Repeat => "repeat",
-        JobKind::Many => "many",
-        JobKind::Open => "open",
-        JobKind::Syntax => "syntax",
-        JobKind::Mnemonic => "mnemonic",
-        JobKind::Operand => "operand",
-        JobKind::Label => "label",
     }
 }
 

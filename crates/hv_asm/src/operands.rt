@@ -91,12 +91,10 @@ fn find_comma(tokens: &[Token]) -> usize
     ensures found { (d : Token) → result < length tokens.now
         → is_comma_of (slice_index_or tokens.now result d).kind ≡ true }
 {
-    for (i, token) in tokens.iter().enumerate() {
-        if is_comma(token.kind) {
-            return i;
-        }
-    }
-    tokens.len()
+    tokens
+        .iter()
+        .position(|token| is_comma(token.kind))
+        .unwrap_or(tokens.len())
 }
 
 /// The operands that some tokens are. None where commas and tokens stand otherwise.

@@ -57,8 +57,8 @@ pub record Regs : Type 0 where
   pub satp : ℕ
   pub next : ℕ
 
--- what the registers always keep: the program counter and the places to return to lie on words, each control
--- register is inside its mask, a trap vector has one of the two modes, and no reserved mode stands anywhere
+-- the registers are those that a hart can have: the program counter and the places to return to lie on words, each
+-- control register is inside its mask, a trap vector has one of the two modes, and no reserved mode stands anywhere
 -- (Privileged Architecture, sections 1.2, 3.1.6 to 3.1.9, 3.1.14, 4.1.1 to 4.1.11)
 pub record FitsHart (r : Regs) : Type 0 where
   pub aligned : r.pc % 4 ≡ 0

@@ -1,13 +1,8 @@
-//! The bits of mip and mie by their names, and the lines from outside.
+//! The bits of mip and mie by their names.
 
-ghost use Rattle.std.specs.Prelude.{⊤, ◌≡◌, [], ◌∷◌, codes};
-ghost use Rattle.std.specs.Int.RustNames.{bit_and};
-ghost use Rattle.hv_cpu.specs.Lines.{lined_of};
-ghost use Rattle.hv_limits.specs.Limits.{lines_mask};
+ghost use Rattle.std.specs.Prelude.{⊤, [], ◌∷◌, codes};
 
-use crate::Cpu;
 use bitflags::{Flag, Flags, bitflag_items};
-use hv_limits::LINES;
 
 /// A set of interrupts, as it stands in mip, mie and mideleg.
 #[derive(Clone, Copy, PartialEq, Eq, Debug)]
@@ -43,16 +38,5 @@ impl Flags for Interrupts {
 
     fn from_bits_retain(bits: u32) -> Interrupts {
         Interrupts(bits)
-    }
-}
-
-impl Cpu {
-    /// Makes the lines from outside those of `mask`, which has no other bits. They stay until changed.
-    #[tactic(auto, using(crate::proofs::Lines::relined_is, crate::proofs::Lines::relined_inside))]
-    pub fn set_lines(&mut self, mask: u32)
-        requires { bit_and mask lines_mask ≡ mask }
-        ensures { self.new ≡ lined_of self.old mask }
-    {
-        self.mip = (self.mip & !LINES) | mask;
     }
 }

@@ -2,12 +2,16 @@
 #![tactic(auto)]
 
 ghost use Rattle.std.specs.Prelude.{◌≡◌, ◌<◌, ◌==◌, ◌||◌, ◌⊎◌, nat_lt, drop, IfSome, IfNone};
+ghost use Rattle.std.specs.Int.RustNames.{bit_and};
+ghost use Rattle.hv_limits.specs.Limits.{lines_mask};
+ghost use Rattle.hv_cpu.specs.Lines.{lined_of};
 ghost use Rattle.hv_cpu.specs.Modes.{mode_word};
 ghost use Rattle.hv_cpu.specs.Regs.{reset_regs, reg, with_reg, spelled};
 
 mod interrupts;
 pub mod mstatus;
 
+use hv_limits::LINES;
 pub use interrupts::Interrupts;
 use std::marker::Model;
 
@@ -58,7 +62,7 @@ impl Mode {
     }
 }
 
-/// The registers of a hart: the program counter, x1 to x31, the mode, the control registers that are
+/// The registers of a hart: the program counter, x0 to x31, the mode, the control registers that are
 /// kept, and the page of the machine that it runs. Control registers are inside their masks, pc, mepc
 /// and sepc are multiples of 4, MPP is a mode, and `next` isn't page 0.
 #[derive(Clone, Copy, Debug)]
@@ -157,6 +161,15 @@ impl Cpu {
         ensures { result ≡ ((self.now.next == 0) || nat_lt self.now.next pages) }
     {
         self.next.is_none_or(|next| next < pages)
+    }
+
+    /// Makes the lines from outside those of `mask`, which has no other bits. They stay until changed.
+    #[tactic(auto, using(crate::proofs::Lines::relined_is, crate::proofs::Lines::relined_inside))]
+    pub fn set_lines(&mut self, mask: u32)
+        requires { bit_and mask lines_mask ≡ mask }
+        ensures { self.new ≡ lined_of self.old mask }
+    {
+        self.mip = (self.mip & !LINES) | mask;
     }
 
     /// The registers as words: pc, x1 to x31, the mode, the control registers in the order of the

@@ -15,6 +15,10 @@ use Rattle.hv_csr.specs.declared.csr.Csr.TheVariants.{Mvendorid, Marchid, Mimpid
 abbrev pub sstatus_mask : ℕ
 sstatus_mask = 0x000C0122
 
+-- the bits of MPP, 12:11 (section 3.1.6.1)
+abbrev pub mpp_bits : ℕ
+mpp_bits = 0x1800
+
 -- the software interrupt of S, the one bit of sip that S may write (section 4.1.3)
 abbrev pub ssi : ℕ
 ssi = 0x2

@@ -2,7 +2,7 @@
 
 ghost use Rattle.std.specs.Prelude.{◌≡◌, ℕ, ◌%◌, ◌<◌};
 ghost use Rattle.std.specs.Int.RustNames.{bit_and};
-ghost use Rattle.hv_csr.specs.Table.{csr_of, row_of, merge, vector as vector_of, on_word as word_of};
+ghost use Rattle.hv_csr.specs.Table.{csr_of, row_of, merge, mpp_bits, vector as vector_of, on_word as word_of};
 ghost use Rattle.hv_word.specs.Words.{field_of};
 
 use crate::status;
@@ -151,7 +151,7 @@ impl Csr {
 fn merged(word: u32, mask: u32, value: u32) -> u32
     ensures is { result ≡ merge word mask value }
     ensures inside { (m : ℕ) → bit_and word m ≡ word → bit_and mask m ≡ mask → bit_and result m ≡ result }
-    ensures mpp { bit_and mask 0x1800 ≡ 0 → field_of result 11 2 ≡ field_of word 11 2 }
+    ensures mpp { bit_and mask mpp_bits ≡ 0 → field_of result 11 2 ≡ field_of word 11 2 }
 {
     (word & !mask) | (value & mask)
 }

@@ -4,7 +4,7 @@ ghost use Rattle.std.specs.Prelude.{◌≡◌, ◌≢◌, ◌+◌, ◌-◌, ◌*
 ghost use Rattle.std.specs.Int.RustNames.{bit_and};
 ghost use Rattle.hv_word.specs.Words.{field_of, field_put};
 ghost use Rattle.hv_cpu.specs.Masks.{mstatus_mask};
-ghost use Rattle.hv_csr.specs.Table.{status_of};
+ghost use Rattle.hv_csr.specs.Table.{mpp_bits, status_of};
 ghost use Rattle.hv_csr.specs.Traps.{entered_m as entered_m_of, entered_s as entered_s_of, left_m as left_m_of, left_s as left_s_of, unprivileged as unprivileged_of};
 
 use hv_cpu::MSTATUS_MASK;
@@ -19,7 +19,7 @@ fn set_status<const LO: u32, const LEN: u32>(status: u32, value: u32) -> u32
     requires masked { bit_and status mstatus_mask ≡ status }
     ensures put { result ≡ field_put status LO LEN value }
     ensures masked { bit_and result mstatus_mask ≡ result }
-    ensures mpp { bit_and ((2 ^ LEN - 1) * 2 ^ LO) 0x1800 ≡ 0 → field_of result 11 2 ≡ field_of status 11 2 }
+    ensures mpp { bit_and ((2 ^ LEN - 1) * 2 ^ LO) mpp_bits ≡ 0 → field_of result 11 2 ≡ field_of status 11 2 }
 {
     field_set::<LO, LEN>(status, value)
 }

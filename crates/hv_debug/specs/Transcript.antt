@@ -1,8 +1,8 @@
 -- What a debugger writes over the commands of a job, as bytes: each command behind `> `, and below it what it answers.
 use Rattle.std.specs.Prelude.{◌≡◌, ℕ, true, take, List, [], ◌∷◌, ◌++◌, fold, Option, Some, None, codes}
 use Rattle.hv_irq.specs.declared.Event.{Event}
-use Rattle.hv_job.specs.declared.job.DebugCommand.{DebugCommand}
-use Rattle.hv_job.specs.declared.job.DebugCommand.TheVariants as command
+use Rattle.hv_line.specs.declared.types.DebugCommand.{DebugCommand}
+use Rattle.hv_line.specs.declared.types.DebugCommand.TheVariants as command
 use Rattle.hv_job.specs.declared.job.DebugLine.{DebugLine}
 use Rattle.hv_job.specs.declared.job.Job.{Job}
 use Rattle.hv_load.specs.declared.start.Named.{Named}

@@ -17,7 +17,8 @@ use std::alloc::{AllocError, Global};
 #[tactic(auto, unfolding(crate::specs::Dis::dis_of))]
 pub fn disassemble(alloc: Global, word: u32) -> Result<String, AllocError>
     ensures line { IfOk result (λ text. string_bytes text ≡ dis_of word) }
-    ensures back { IfOk result (λ text. (base : ℕ) → base + 4 ≤ 2 ^ 32 → asm_of (string_bytes text) base ≡ Ok (word ∷ [])) }
+    ensures back { IfOk result
+        (λ text. (base : ℕ) → base + 4 ≤ 2 ^ 32 → asm_of (string_bytes text) base ≡ Ok (word ∷ [])) }
 {
     let mut out = String::new(alloc);
     match decode(word) {

@@ -1,10 +1,7 @@
 -- A text as its lines.
 use Rattle.std.specs.Prelude.{◌≡◌, ℕ, ◌==◌, if◌then◌else◌, List, [], ◌∷◌, ◌++◌, map}
-
--- the lists with c at the front of the first of them; where there is none, a list of its own
-abbrev pub onto : ℕ → List (List ℕ) → List (List ℕ)
-onto c [] = (c ∷ []) ∷ []
-onto c (piece ∷ pieces) = (c ∷ piece) ∷ pieces
+-- the lists with an item at the front of the first of them; where there is none, a list of its own
+pub use Rattle.std.specs.List.{onto_first as onto}
 
 -- A line feed, byte 10, ends each line; the last one may lack it where it isn't empty.
 unfoldable pub cut_of : List ℕ → List (List ℕ)

@@ -1,4 +1,4 @@
--- Numbers as they are written: decimal digits, or `0x` and hexadecimal digits of either case, with a value below 2 ^ 32.
+-- Numbers as they are written: decimal digits, or `0x` and hexadecimal digits of either case, below 2 ^ 32.
 use Rattle.std.specs.Prelude.{ℕ, ◌+◌, ◌-◌, ◌*◌, ◌^◌, ◌==◌, ◌&&◌, nat_eq, nat_lt, nat_le, if◌then◌else◌, List, [], ◌∷◌, length, drop, Option, Some, None, codes}
 use Rattle.std.specs.List.{starts_with}
 use Rattle.std.specs.Option.{option_and_then}

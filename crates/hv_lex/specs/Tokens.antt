@@ -130,8 +130,8 @@ lexed_at at text = tokens_at at (pieces_of text)
 abbrev pub tokens_of : List ℕ → Result (List Token) LexEnd
 tokens_of line = lexed_at 0 line
 
--- each token begins where the one before it ends or behind it, the first at `from` or behind it, and has a byte or more; all
--- end at `to` or before it
+-- each token begins where the one before it ends or behind it, the first at `from` or behind it, and has a byte or
+-- more; all end at `to` or before it
 abbrev pub Rise : ℕ → List Token → ℕ → Type 0
 Rise from [] to = from ≤ to
 Rise from (t ∷ ts) to = (from ≤ t.start) × (t.start < t.end) × Rise t.end ts to

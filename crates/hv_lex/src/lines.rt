@@ -52,10 +52,8 @@ fn find(bytes: &[u8], wanted: u8) -> usize
     ensures before { (k : ℕ) → k < result → slice_index bytes.now k ≢ wanted }
     ensures found { result < length bytes.now → slice_index bytes.now result ≡ wanted }
 {
-    for (i, byte) in bytes.iter().enumerate() {
-        if *byte == wanted {
-            return i;
-        }
-    }
-    bytes.len()
+    bytes
+        .iter()
+        .position(|byte| *byte == wanted)
+        .unwrap_or(bytes.len())
 }

@@ -135,11 +135,12 @@ fn sign(at: u32, byte: u8, behind: &[u8]) -> Result<Piece, LexEnd>
     Ok(Piece { size: 1, token })
 }
 
-#[tactic(auto, unfolding(crate::specs::Tokens::sign_token))]
 // The token of a byte alone; a blank or a tab has none.
+#[tactic(auto, unfolding(crate::specs::Tokens::sign_token))]
 fn sign_token(at: u32, byte: u8) -> Result<Option<Token>, LexEnd>
     requires { at + 1 < 2 ^ 32 }
-    ensures value { MatchResult result (λ token. sign_token_of at byte ≡ Ok (option_to_list token)) (λ end. sign_token_of at byte ≡ Err end) }
+    ensures value { MatchResult result (λ token. sign_token_of at byte ≡ Ok (option_to_list token))
+        (λ end. sign_token_of at byte ≡ Err end) }
     ensures stands { IfOk result (StandsAt at 1) }
 {
     let kind = match byte {
@@ -161,7 +162,8 @@ fn sign_token(at: u32, byte: u8) -> Result<Option<Token>, LexEnd>
 // The token of the number that a word is, with its sign.
 #[tactic(auto, unfolding(crate::specs::Tokens::number_token))]
 fn number(start: u32, end: u32, minus: bool, word: &[u8]) -> Result<Token, LexEnd>
-    ensures value { MatchResult result (λ token. number_token start end (option_map (value_of minus) (number_of word.now)) ≡ Ok (token ∷ []))
+    ensures value { MatchResult result
+        (λ token. number_token start end (option_map (value_of minus) (number_of word.now)) ≡ Ok (token ∷ []))
         (λ fault. number_token start end (option_map (value_of minus) (number_of word.now)) ≡ Err fault) }
     ensures stands { IfOk result (λ token. (token.start ≡ start) × (token.end ≡ end)) }
 {
@@ -180,12 +182,9 @@ fn letters(text: &[u8]) -> usize
     ensures letters { (k : ℕ) → k < result → is_letter_of (slice_index text.now k) ≡ true }
     ensures ends { result < length text.now → is_letter_of (slice_index text.now result) ≡ false }
 {
-    for (i, byte) in text.iter().enumerate() {
-        if !is_letter(*byte) {
-            return i;
-        }
-    }
-    text.len()
+    text.iter()
+        .position(|byte| !is_letter(*byte))
+        .unwrap_or(text.len())
 }
 
 #[tactic(auto, unfolding(crate::specs::Tokens::begins_number))]

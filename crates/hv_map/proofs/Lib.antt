@@ -1,6 +1,8 @@
+pub mod Adding
 pub mod Agree
 pub mod Assoc
 pub mod Handed
+pub mod Holding
 pub mod Levels
 pub mod Like
 pub mod Listing
@@ -9,6 +11,7 @@ pub mod Machines
 pub mod Notes
 pub mod Outwards
 pub mod Pins
+pub mod Rest
 pub mod Rows
 pub mod Running
 pub mod Slots

@@ -3,6 +3,7 @@ pub mod Carried
 pub mod Chain
 pub mod Compose
 pub mod Found
+pub mod Held
 pub mod Item
 pub mod Laws
 pub mod Levels

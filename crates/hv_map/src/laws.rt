@@ -1,5 +1,6 @@
 //! What always holds of composed maps. Each function here is empty: it states one law, which is proved.
 
+ghost use Rattle.hv_map.specs.Held.{NotedMapLaw, NotedSlotLaw, ListedLaw, ListKeepsLaw, PlacedLaw, HeldIsRightLaw, PinIsRightLaw, HeldStaysLaw, PinStaysLaw};
 ghost use Rattle.hv_map.specs.Laws.{SizeLaw, TableLaw, OpensLaw, SameLaw, LevelLaw, CarryLaw, TrailLaw, AssociativeLaw, AlongLaw, PinnedLaw, RunningLaw};
 
 /// A child's map has a slot for each of its pages, and no other.
@@ -63,4 +64,49 @@ pub fn machines_are_on_their_path()
 /// The path of the machine that a hart runs is one with a map, and no longer than machines may be deep.
 pub fn running_path_has_a_map()
     ensures { RunningLaw }
+{}
+
+/// A map with notes is the map, where the notes are left out.
+pub fn notes_stand_beside_map()
+    ensures { NotedMapLaw }
+{}
+
+/// A slot depends on nothing but the words of the pages that are noted beside it.
+pub fn slot_depends_on_noted_pages()
+    ensures { NotedSlotLaw }
+{}
+
+/// A list that isn't full has all pages that were added.
+pub fn list_has_what_was_added()
+    ensures { ListedLaw }
+{}
+
+/// Adding pages to a list keeps those that were there.
+pub fn list_keeps_its_pages()
+    ensures { ListKeepsLaw }
+{}
+
+/// The machines on a path are placed where what is read to find their blocks is listed.
+pub fn pinned_machines_are_placed()
+    ensures { PlacedLaw }
+{}
+
+/// What is held is right: its machines are those on their path, and its page has its slot in the last one's map.
+pub fn held_translation_is_right()
+    ensures { HeldIsRightLaw }
+{}
+
+/// A pin is right: its machines are those on the running path.
+pub fn pin_is_right()
+    ensures { PinIsRightLaw }
+{}
+
+/// What is held stays while the words of the listed pages stay, and the blocks of its machines say what they did.
+pub fn held_translation_stays()
+    ensures { HeldStaysLaw }
+{}
+
+/// And so does a pin, while the hart's next and those in the blocks stay too.
+pub fn pin_stays()
+    ensures { PinStaysLaw }
 {}

@@ -26,7 +26,7 @@ use Rattle.hv_limits.specs.Limits.{depth_limit}
 use Rattle.hv_nest.specs.declared.outcome.StepKind.{StepKind}
 use Rattle.hv_nest.specs.declared.outcome.StepKind.TheVariants.{Worked as WorkedKind, Recall, Fault}
 use Rattle.hv_nest.specs.Kinds.{step_as}
-use Rattle.hv_nest.specs.Step.{Stepped, Worked, Recalled, Faulted, Barred, Machine, idle, interrupted, worked, told, put_back, malformed, child_step, child_through as step_through, child_at as step_at, descended, step_on, step_of, host_step_of}
+use Rattle.hv_nest.specs.Step.{Stepped, Worked, Recalled, Faulted, Barred, Machine, idle, interrupt_of, act_step, tell_of, put_back, malformed, child_step, child_through as step_through, child_at as step_at, next_step, step_on, step_of, host_step_of}
 use Rattle.hv_nest.specs.Frame.{is_kept_word, is_kept_in, is_kept_of, IsFramed, IsFramedBy}
 
 true-false : true ≡ false → ⊥
@@ -102,7 +102,7 @@ FramedStep S F items (Barred e) = Unit {0}
 framed_same : (S : List ℕ) (F : List Slot) (items : List Item) → IsFramed S F items S
 framed_same S F items = λ a ne. absurd (ne refl)
 
-framed_interrupted : (S : List ℕ) (F : List Slot) (items : List Item) (j : ℕ) (r : Regs) (k : ℕ) → FramedStep S F items (interrupted S j r k)
+framed_interrupted : (S : List ℕ) (F : List Slot) (items : List Item) (j : ℕ) (r : Regs) (k : ℕ) → FramedStep S F items (interrupt_of S j r k)
 unfolding FramedStep
 framed_interrupted S F items j r k = by (r.next == 0)
   where
@@ -121,11 +121,11 @@ or_more : (o s t : Bool) → (o || t) ≡ true → (o || (s || t)) ≡ true
 or_more true s t e = refl
 or_more false s t e = or_right s t e
 
-framed_acted : (S : List ℕ) (F : List Slot) (h : ℕ) (r : Regs) (items : List Item) → FramedStep S F items (worked (act_of S F h r))
+framed_acted : (S : List ℕ) (F : List Slot) (h : ℕ) (r : Regs) (items : List Item) → FramedStep S F items (act_step (act_of S F h r))
 unfolding FramedStep
 framed_acted S F h r items = by (act_of S F h r) (few_act S F h r)
   where
-    by : (A : Acted) → ChangesFew S F r A → FramedStep S F items (worked A)
+    by : (A : Acted) → ChangesFew S F r A → FramedStep S F items (act_step A)
     by (Refused e) f = tt
     by (Done T q) f = λ a ne. at a ne (among a f.0) refl
       where
@@ -134,7 +134,7 @@ framed_acted S F h r items = by (act_of S F h r) (few_act S F h r)
         at a ne false p = absurd (ne (sym (f.2.elsewhere a p)))
 
 -- a fault that is told in page g, which is the page of a block on the way, or may be written
-framed_told : (S : List ℕ) (F : List Slot) (items : List Item) (j : ℕ) (r : Regs) (g : ℕ) (e : Refusal) → ((a : ℕ) → is_kept_in g a ≡ true → (opens_for_writing F (a / 1024) || is_kept_of items a) ≡ true) → FramedStep S F items (told S j r g e)
+framed_told : (S : List ℕ) (F : List Slot) (items : List Item) (j : ℕ) (r : Regs) (g : ℕ) (e : Refusal) → ((a : ℕ) → is_kept_in g a ≡ true → (opens_for_writing F (a / 1024) || is_kept_of items a) ≡ true) → FramedStep S F items (tell_of S j r g e)
 unfolding FramedStep
 framed_told S F items j r g e f = by (e.level == j)
   where
@@ -252,7 +252,7 @@ module _ (n : ℕ) (S : List ℕ) (F : List Slot) (j h : ℕ) (r : Regs) where
   unfolding FramedStep
   stops e = ends S F j (step_on (Some (step_of n)) S F j h r (pending_of r)) (by (pending_of r))
     where
-      going : (t : Bool) → (r.next == 0) ≡ t → FramedStep S F [] (cond t (worked (act_of S F h r)) (descended (Some (step_of n)) S F j r))
+      going : (t : Bool) → (r.next == 0) ≡ t → FramedStep S F [] (cond t (act_step (act_of S F h r)) (next_step (Some (step_of n)) S F j r))
       going true z = framed_acted S F h r []
       going false z =
           let ne : r.next ≢ 0 = eqb-false r.next 0 z in
@@ -284,7 +284,7 @@ module _ (n : ℕ) (S : List ℕ) (F : List Slot) (j h : ℕ) (r : Regs) where
       G : List Slot
       G = along S (compose S F j x.pages x.table x.version) (j + 1) d.items
 
-      going : (t : Bool) → (r.next == 0) ≡ t → FramedStep S (along S (compose S F j x.pages x.table x.version) (j + 1) d.items) (x ∷ d.items) (cond t (worked (act_of S F h r)) (descended (Some (step_of n)) S F j r))
+      going : (t : Bool) → (r.next == 0) ≡ t → FramedStep S (along S (compose S F j x.pages x.table x.version) (j + 1) d.items) (x ∷ d.items) (cond t (act_step (act_of S F h r)) (next_step (Some (step_of n)) S F j r))
       going true z = absurd (ne (eqb-true r.next 0 z))
       going false z =
           subst (FramedStep S (along S (compose S F j x.pages x.table x.version) (j + 1) d.items) (x ∷ d.items)) (sym (child_goes S F j r (step_of n) x here))
@@ -302,7 +302,7 @@ framing : (n : ℕ) (S : List ℕ) (F : List Slot) (j h : ℕ) (r : Regs) → Fr
 unfolding running step_of FramedStep
 framing zero S F j h r = ends S F j (step_on None S F j h r (pending_of r)) (by (pending_of r))
   where
-    going : (t : Bool) → FramedStep S F [] (cond t (worked (act_of S F h r)) (descended None S F j r))
+    going : (t : Bool) → FramedStep S F [] (cond t (act_step (act_of S F h r)) (next_step None S F j r))
     going true = framed_acted S F h r []
     going false = tt
 

@@ -23,7 +23,7 @@ use Rattle.hv_map.proofs.Assoc.{begins_from}
 use Rattle.hv_map.proofs.Slots.{length-composed}
 use Rattle.hv_map.proofs.Views.{composed_below}
 use Rattle.hv_map.proofs.Words.{follows}
-use Rattle.hv_nest.specs.Step.{Stepped, Worked, Recalled, Faulted, Barred, Machine, idle, interrupted, worked, told, put_back, malformed, too_deep, child_step, child_through as step_through, child_at as step_at, resumed, step_on, step_of}
+use Rattle.hv_nest.specs.Step.{Stepped, Worked, Recalled, Faulted, Barred, Machine, idle, interrupt_of, act_step, tell_of, put_back, malformed, too_deep, child_step, child_through as step_through, child_at as step_at, quiet_step, step_on, step_of}
 use Rattle.hv_nest.specs.Asks.{Ask, asks, refusal_through, refusal_at, refusal_of, first_refused}
 use Rattle.hv_nest.specs.Received.{HasBlock}
 use Rattle.hv_nest.specs.Routing.{regs_along, hart_along, is_calm}
@@ -77,34 +77,34 @@ level_along j [] = j
 level_along j (x ∷ xs) = level_along (j + 1) xs
 
 -- an interrupt is no refusal
-interrupted_reason : (S : List ℕ) (j : ℕ) (r : Regs) (k : ℕ) → reason_of (interrupted S j r k) ≡ None
+interrupted_reason : (S : List ℕ) (j : ℕ) (r : Regs) (k : ℕ) → reason_of (interrupt_of S j r k) ≡ None
 interrupted_reason S j r k = go (r.next == 0)
   where
     go : (b : Bool) → reason_of (cond b (Worked S (take_trap_of r k true 0)) (Recalled j S (idle r))) ≡ None
     go true = refl
     go false = refl
 
-interrupted_below : (S : List ℕ) (j : ℕ) (r : Regs) (k : ℕ) → PassedBelow j (interrupted S j r k)
+interrupted_below : (S : List ℕ) (j : ℕ) (r : Regs) (k : ℕ) → PassedBelow j (interrupt_of S j r k)
 interrupted_below S j r k = go (r.next == 0)
   where
     go : (b : Bool) → PassedBelow j (cond b (Worked S (take_trap_of r k true 0)) (Recalled j S (idle r)))
     go true = tt
     go false = tt
 
-worked_reason : (A : Acted) → reason_of (worked A) ≡ act_refusal A
+worked_reason : (A : Acted) → reason_of (act_step A) ≡ act_refusal A
 worked_reason (Done S r) = refl
 worked_reason (Refused e) = refl
 
 -- a refusal stays what it is on its way out
 module _ (S : List ℕ) (j : ℕ) (r : Regs) (g : ℕ) (e : Refusal) where
-  told_reason : reason_of (told S j r g e) ≡ Some e
+  told_reason : reason_of (tell_of S j r g e) ≡ Some e
   told_reason = go (e.level == j) refl
     where
       go : (b : Bool) → (e.level == j) ≡ b → reason_of (cond b (Faulted j e.cause e.address e.access (with_fault S g e.cause e.address (access_word e.access)) (idle r)) (Barred e)) ≡ Some e
       go true is = ap (λ (k : ℕ). Some record { level = k; cause = e.cause; address = e.address; access = e.access }) (sym (eqb-true e.level j is))
       go false is = refl
 
-  told_below : e.level < j + 1 → PassedBelow j (told S j r g e)
+  told_below : e.level < j + 1 → PassedBelow j (tell_of S j r g e)
   told_below h = go (e.level == j) refl
     where
       go : (b : Bool) → (e.level == j) ≡ b → PassedBelow j (cond b (Faulted j e.cause e.address e.access (with_fault S g e.cause e.address (access_word e.access)) (idle r)) (Barred e))
@@ -147,14 +147,14 @@ first_below j F qs e below = go (first_refused F qs)
     go None is = absurd (let f : None ≡ Some e = is in cc)
     go (Some q) is = refusal_below j F q e below is
 
-worked_below : (j : ℕ) (A : Acted) → ((e : Refusal) → act_refusal A ≡ Some e → e.level < j) → PassedBelow j (worked A)
+worked_below : (j : ℕ) (A : Acted) → ((e : Refusal) → act_refusal A ≡ Some e → e.level < j) → PassedBelow j (act_step A)
 worked_below j (Done S r) h = tt
 worked_below j (Refused e) h = h e refl
 
-acts_below : (S : List ℕ) (F : List Slot) (j hart : ℕ) (r : Regs) → ShutBelow j F → PassedBelow j (worked (act_of S F hart r))
+acts_below : (S : List ℕ) (F : List Slot) (j hart : ℕ) (r : Regs) → ShutBelow j F → PassedBelow j (act_step (act_of S F hart r))
 acts_below S F j hart r below = worked_below j (act_of S F hart r) (λ e is. first_below j F (asks S F hart r) e below (sym (act_refused S F r hart) ∙ is))
 
-acts_reason : (S : List ℕ) (F : List Slot) (hart : ℕ) (r : Regs) → reason_of (worked (act_of S F hart r)) ≡ first_refusal F (asks S F hart r)
+acts_reason : (S : List ℕ) (F : List Slot) (hart : ℕ) (r : Regs) → reason_of (act_step (act_of S F hart r)) ≡ first_refusal F (asks S F hart r)
 acts_reason S F hart r = worked_reason (act_of S F hart r) ∙ act_refused S F r hart
 
 -- a next is no 0
@@ -216,25 +216,25 @@ module _ (deeper : Machine) (S : List ℕ) (F : List Slot) (j hart : ℕ) (r : R
   slot_goes s x (Some slot) e = through_goes s x slot.write e
 
   -- by whether it has a next
-  pub resumed_stops : (n : ℕ) → child_next S F r.next ≡ None → reason_of (resumed (Some deeper) S F j hart r) ≡ ended (suc n) S F j hart r
+  pub resumed_stops : (n : ℕ) → child_next S F r.next ≡ None → reason_of (quiet_step (Some deeper) S F j hart r) ≡ ended (suc n) S F j hart r
   resumed_stops n e = go r.next e
     where
       go : (s : ℕ) → child_next S F s ≡ None
-          → reason_of (cond (s == 0) (worked (act_of S F hart r)) (step_at deeper S F j r (slice_get F s)))
+          → reason_of (cond (s == 0) (act_step (act_of S F hart r)) (step_at deeper S F j r (slice_get F s)))
           ≡ cond (s == 0) (first_refusal F (asks S F hart r)) (blocked_at S j r.next (slice_get F s))
       go zero f = acts_reason S F hart r
       go (suc s) f =
-          ap (λ (b : Bool). reason_of (cond b (worked (act_of S F hart r)) (step_at deeper S F j r (slice_get F (suc s))))) (next_some s)
+          ap (λ (b : Bool). reason_of (cond b (act_step (act_of S F hart r)) (step_at deeper S F j r (slice_get F (suc s))))) (next_some s)
           ∙ slot_stops (suc s) (slice_get F (suc s)) f
           ∙ sym (ap (λ (b : Bool). cond b (first_refusal F (asks S F hart r)) (blocked_at S j r.next (slice_get F (suc s)))) (next_some s))
 
-  pub resumed_below : ShutBelow j F → r.next < length F → child_next S F r.next ≡ None → PassedBelow j (resumed (Some deeper) S F j hart r)
+  pub resumed_below : ShutBelow j F → r.next < length F → child_next S F r.next ≡ None → PassedBelow j (quiet_step (Some deeper) S F j hart r)
   resumed_below below inside e = go r.next inside e
     where
-      go : (s : ℕ) → s < length F → child_next S F s ≡ None → PassedBelow j (cond (s == 0) (worked (act_of S F hart r)) (step_at deeper S F j r (slice_get F s)))
+      go : (s : ℕ) → s < length F → child_next S F s ≡ None → PassedBelow j (cond (s == 0) (act_step (act_of S F hart r)) (step_at deeper S F j r (slice_get F s)))
       go zero h f = acts_below S F j hart r below
       go (suc s) h f =
-          subst (λ (b : Bool). PassedBelow j (cond b (worked (act_of S F hart r)) (step_at deeper S F j r (slice_get F (suc s))))) (sym (next_some s))
+          subst (λ (b : Bool). PassedBelow j (cond b (act_step (act_of S F hart r)) (step_at deeper S F j r (slice_get F (suc s))))) (sym (next_some s))
           (slot_stops_below below (suc s) (suc s) h (slice_get F (suc s)) refl f)
 
   -- what that leaves
@@ -252,45 +252,45 @@ module _ (deeper : Machine) (S : List ℕ) (F : List Slot) (j hart : ℕ) (r : R
   slot_received s None bounds there e = tt
   slot_received s (Some slot) bounds there e = through_received s slot slot.write bounds there refl e
 
-  pub resumed_received : OpensInside (page_count S) F → child_next S F r.next ≡ None → Received S F j [] r (resumed (Some deeper) S F j hart r)
+  pub resumed_received : OpensInside (page_count S) F → child_next S F r.next ≡ None → Received S F j [] r (quiet_step (Some deeper) S F j hart r)
   resumed_received bounds e = go r.next refl e
     where
-      go : (s : ℕ) → r.next ≡ s → child_next S F s ≡ None → Received S F j [] r (cond (s == 0) (worked (act_of S F hart r)) (step_at deeper S F j r (slice_get F s)))
+      go : (s : ℕ) → r.next ≡ s → child_next S F s ≡ None → Received S F j [] r (cond (s == 0) (act_step (act_of S F hart r)) (step_at deeper S F j r (slice_get F s)))
       go zero is f = worked_received S F j [] r (act_of S F hart r)
       go (suc s) is f =
-          subst (λ (b : Bool). Received S F j [] r (cond b (worked (act_of S F hart r)) (step_at deeper S F j r (slice_get F (suc s))))) (sym (next_some s))
+          subst (λ (b : Bool). Received S F j [] r (cond b (act_step (act_of S F hart r)) (step_at deeper S F j r (slice_get F (suc s))))) (sym (next_some s))
           (slot_received (suc s) (slice_get F (suc s)) bounds (ap (slice_get F) is) f)
 
   pub resumed_goes : (x : Item) → child_next S F r.next ≡ Some x
-      → resumed (Some deeper) S F j hart r ≡ put_back S j r x.block (deeper S (compose S F j x.pages x.table x.version) (j + 1) 0 (regs_at S x.block))
+      → quiet_step (Some deeper) S F j hart r ≡ put_back S j r x.block (deeper S (compose S F j x.pages x.table x.version) (j + 1) 0 (regs_at S x.block))
   resumed_goes x e = go r.next e
     where
       go : (s : ℕ) → child_next S F s ≡ Some x
-          → cond (s == 0) (worked (act_of S F hart r)) (step_at deeper S F j r (slice_get F s)) ≡ put_back S j r x.block (deeper S (compose S F j x.pages x.table x.version) (j + 1) 0 (regs_at S x.block))
+          → cond (s == 0) (act_step (act_of S F hart r)) (step_at deeper S F j r (slice_get F s)) ≡ put_back S j r x.block (deeper S (compose S F j x.pages x.table x.version) (j + 1) 0 (regs_at S x.block))
       go zero f = absurd (let h : None ≡ Some x = f in cc)
       go (suc s) f =
-          ap (λ (b : Bool). cond b (worked (act_of S F hart r)) (step_at deeper S F j r (slice_get F (suc s)))) (next_some s)
+          ap (λ (b : Bool). cond b (act_step (act_of S F hart r)) (step_at deeper S F j r (slice_get F (suc s)))) (next_some s)
           ∙ slot_goes (suc s) x (slice_get F (suc s)) f
 
 -- at the deepest level it runs no child
-deepest_reason : (S : List ℕ) (F : List Slot) (j hart : ℕ) (r : Regs) → reason_of (resumed None S F j hart r) ≡ ended zero S F j hart r
+deepest_reason : (S : List ℕ) (F : List Slot) (j hart : ℕ) (r : Regs) → reason_of (quiet_step None S F j hart r) ≡ ended zero S F j hart r
 deepest_reason S F j hart r = go (r.next == 0)
   where
-    go : (b : Bool) → reason_of (cond b (worked (act_of S F hart r)) (Barred (too_deep r.next))) ≡ cond b (first_refusal F (asks S F hart r)) (Some (too_deep r.next))
+    go : (b : Bool) → reason_of (cond b (act_step (act_of S F hart r)) (Barred (too_deep r.next))) ≡ cond b (first_refusal F (asks S F hart r)) (Some (too_deep r.next))
     go true = acts_reason S F hart r
     go false = refl
 
-deepest_below : (S : List ℕ) (F : List Slot) (j hart : ℕ) (r : Regs) → ShutBelow j F → 0 < j → PassedBelow j (resumed None S F j hart r)
+deepest_below : (S : List ℕ) (F : List Slot) (j hart : ℕ) (r : Regs) → ShutBelow j F → 0 < j → PassedBelow j (quiet_step None S F j hart r)
 deepest_below S F j hart r below deep = go (r.next == 0)
   where
-    go : (b : Bool) → PassedBelow j (cond b (worked (act_of S F hart r)) (Barred (too_deep r.next)))
+    go : (b : Bool) → PassedBelow j (cond b (act_step (act_of S F hart r)) (Barred (too_deep r.next)))
     go true = acts_below S F j hart r below
     go false = deep
 
-deepest_received : (S : List ℕ) (F : List Slot) (j hart : ℕ) (r : Regs) → Received S F j [] r (resumed None S F j hart r)
+deepest_received : (S : List ℕ) (F : List Slot) (j hart : ℕ) (r : Regs) → Received S F j [] r (quiet_step None S F j hart r)
 deepest_received S F j hart r = go (r.next == 0)
   where
-    go : (b : Bool) → Received S F j [] r (cond b (worked (act_of S F hart r)) (Barred (too_deep r.next)))
+    go : (b : Bool) → Received S F j [] r (cond b (act_step (act_of S F hart r)) (Barred (too_deep r.next)))
     go true = worked_received S F j [] r (act_of S F hart r)
     go false = tt
 
@@ -409,7 +409,7 @@ module _ (n : ℕ) (S : List ℕ) (F : List Slot) (j hart : ℕ) (r : Regs) (bel
         received = received_by (pending_of r);
       }
     where
-      goes : resumed (Some (step_of n)) S F j hart r ≡ put_back S j r x.block (step_of n S (compose S F j x.pages x.table x.version) (j + 1) 0 (regs_at S x.block))
+      goes : quiet_step (Some (step_of n)) S F j hart r ≡ put_back S j r x.block (step_of n S (compose S F j x.pages x.table x.version) (j + 1) 0 (regs_at S x.block))
       goes = resumed_goes (step_of n) S F j hart r x e
 
       hart_same : (xs : List Item) → hart_along xs 0 ≡ 0

@@ -24,7 +24,7 @@ use Rattle.hv_map.specs.Compose.{compose}
 use Rattle.hv_map.specs.Chain.{along}
 use Rattle.hv_map.proofs.Handed.{composed_opens}
 use Rattle.hv_map.proofs.Views.{identity_same}
-use Rattle.hv_nest.specs.Step.{Stepped, Worked, Recalled, Faulted, Barred, idle, interrupted, worked, told, put_back}
+use Rattle.hv_nest.specs.Step.{Stepped, Worked, Recalled, Faulted, Barred, idle, interrupt_of, act_step, tell_of, put_back}
 use Rattle.hv_nest.specs.Routing.{regs_along}
 use Rattle.hv_nest.specs.Received.{ChangesOnly, IsNextOf, IsFaultWord, GetsBack, HasBlock, Tells}
 
@@ -160,11 +160,11 @@ Received S F j items r (Recalled l T q) = Recall S j items r l T q
 Received S F j items r (Faulted l cause address a T q) = Fault S F j items r l cause address a T q
 Received S F j items r (Barred e) = Unit {0}
 
-pub worked_received : (S : List ℕ) (F : List Slot) (j : ℕ) (items : List Item) (r : Regs) (A : Acted) → Received S F j items r (worked A)
+pub worked_received : (S : List ℕ) (F : List Slot) (j : ℕ) (items : List Item) (r : Regs) (A : Acted) → Received S F j items r (act_step A)
 worked_received S F j items r (Done T q) = tt
 worked_received S F j items r (Refused e) = tt
 
-pub interrupted_received : (S : List ℕ) (F : List Slot) (j : ℕ) (items : List Item) (r : Regs) (k : ℕ) → Received S F j items r (interrupted S j r k)
+pub interrupted_received : (S : List ℕ) (F : List Slot) (j : ℕ) (items : List Item) (r : Regs) (k : ℕ) → Received S F j items r (interrupt_of S j r k)
 interrupted_received S F j items r k = go (r.next == 0)
   where
     go : (b : Bool) → Received S F j items r (cond b (Worked S (take_trap_of r k true 0)) (Recalled j S (idle r)))
@@ -179,7 +179,7 @@ interrupted_received S F j items r k = go (r.next == 0)
       };
     }
 
-pub told_received : (S : List ℕ) (F : List Slot) (j : ℕ) (items : List Item) (r : Regs) (g : ℕ) (e : Refusal) → g < page_count S → HasBlock F r.next g → Received S F j items r (told S j r g e)
+pub told_received : (S : List ℕ) (F : List Slot) (j : ℕ) (items : List Item) (r : Regs) (g : ℕ) (e : Refusal) → g < page_count S → HasBlock F r.next g → Received S F j items r (tell_of S j r g e)
 unfolding along
 told_received S F j items r g e inside has = go (e.level == j)
   where

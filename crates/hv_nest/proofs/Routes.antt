@@ -22,7 +22,7 @@ use Rattle.hv_map.proofs.Views.{identity_below}
 use Rattle.hv_nest.specs.Step.{Stepped, Worked, Recalled, Faulted, Barred, malformed, too_deep, step_of, host_step_of}
 use Rattle.hv_nest.specs.Asks.{Ask, asks, refusal_through, refusal_at, refusal_of, first_refused}
 use Rattle.hv_nest.specs.Received.{IsFaultWord, GetsBack, HasBlock, IsReceived}
-use Rattle.hv_nest.specs.Routing.{regs_along, hart_along, is_calm, asked, HasMalformed, fault_of, is_map_cause, refusal_on_trail, IsRouted}
+use Rattle.hv_nest.specs.Routing.{regs_along, hart_along, is_calm, refused_ask, HasMalformed, fault_of, is_map_cause, refusal_on_trail, IsRouted}
 use Rattle.hv_nest.proofs.Causes.{TellsAll, tells_all, identity_tells, along_tells}
 use Rattle.hv_nest.proofs.Received.{Received, identity_inside}
 use Rattle.hv_nest.proofs.Refused.{first_refusal}
@@ -70,11 +70,11 @@ module _ (S path : List ℕ) (F : List Slot) (tells : TellsAll F) (trails : (i :
     IsBad : Type 0
     IsBad = (c.next ≢ 0) × (length path < depth_limit) × HasMalformed S F c.next
 
-    none_asked : asked S F (length path) hart c ≡ None → IsSome (asked S F (length path) hart c) → ⊥
+    none_asked : refused_ask S F (length path) hart c ≡ None → IsSome (refused_ask S F (length path) hart c) → ⊥
     none_asked e some = let f : false ≡ true = sym (ap (λ (o : Option Ask). is_some o) e) ∙ some in cc
 
     -- nothing was refused
-    ends_none : asked S F (length path) hart c ≡ None → (IsDeep → ⊥) → (IsBad → ⊥) → IsRouted S path F hart c None
+    ends_none : refused_ask S F (length path) hart c ≡ None → (IsDeep → ⊥) → (IsBad → ⊥) → IsRouted S path F hart c None
     unfolding IsDeep IsBad
     ends_none e deep bad = record {
       deep = (λ f. absurd f, λ d. absurd (deep d));
@@ -87,7 +87,7 @@ module _ (S path : List ℕ) (F : List Slot) (tells : TellsAll F) (trails : (i :
     }
 
     -- it is too deep
-    ends_deep : asked S F (length path) hart c ≡ None → IsDeep → IsRouted S path F hart c (Some (too_deep c.next))
+    ends_deep : refused_ask S F (length path) hart c ≡ None → IsDeep → IsRouted S path F hart c (Some (too_deep c.next))
     unfolding IsDeep
     ends_deep e deep = record {
       deep = (λ f. deep, λ d. (refl, refl));
@@ -100,7 +100,7 @@ module _ (S path : List ℕ) (F : List Slot) (tells : TellsAll F) (trails : (i :
     }
 
     -- a block is malformed
-    ends_bad : asked S F (length path) hart c ≡ None → IsBad → IsRouted S path F hart c (Some (malformed (length path) c.next))
+    ends_bad : refused_ask S F (length path) hart c ≡ None → IsBad → IsRouted S path F hart c (Some (malformed (length path) c.next))
     unfolding IsBad
     ends_bad e bad = record {
       deep = (λ f. absurd (let g : 6 ≡ 5 = f.0 in omega arith), λ d. absurd (let h : length path < depth_limit = bad.1 in let g : length path ≡ depth_limit = d.0 in omega arith));
@@ -116,7 +116,7 @@ module _ (S path : List ℕ) (F : List Slot) (tells : TellsAll F) (trails : (i :
     not_cause : (x : ℕ) (e : Refusal) → is_map_cause e.cause ≡ true → is_map_cause x ≡ false → e.cause ≡ x → ⊥
     not_cause x e has hasnt same = let f : true ≡ false = sym has ∙ ap is_map_cause same ∙ hasnt in cc
 
-    ends_map : (q : Ask) (e : Refusal) → asked S F (length path) hart c ≡ Some q → OnTrail q e → (IsDeep → ⊥) → (IsBad → ⊥) → IsRouted S path F hart c (Some e)
+    ends_map : (q : Ask) (e : Refusal) → refused_ask S F (length path) hart c ≡ Some q → OnTrail q e → (IsDeep → ⊥) → (IsBad → ⊥) → IsRouted S path F hart c (Some e)
     unfolding IsDeep IsBad
     ends_map q e is on deep bad = record {
       deep = (λ f. absurd (not_cause 5 e on.cause refl f.0), λ d. absurd (deep d));
@@ -139,7 +139,7 @@ module _ (S path : List ℕ) (F : List Slot) (tells : TellsAll F) (trails : (i :
         fault_is : ended n S F (length path) hart c ≡ first_refusal F (asks S F hart c)
         fault_is = ap (λ (b : Bool). cond b (first_refusal F (asks S F hart c)) (stopped n S F (length path) c.next)) test
 
-        asked_is : asked S F (length path) hart c ≡ first_refused F (asks S F hart c)
+        asked_is : refused_ask S F (length path) hart c ≡ first_refused F (asks S F hart c)
         asked_is = ap (λ (b : Bool). first_refused F (cond b (asks S F hart c) (cond (length path == depth_limit) [] (record { page = c.next; word = 0; access = Write } ∷ [])))) test
 
         found : (q : Ask) → first_refused F (asks S F hart c) ≡ Some q → (e : Refusal) × (refusal_of F q ≡ Some e) → IsRouted S path F hart c (ended n S F (length path) hart c)
@@ -157,7 +157,7 @@ module _ (S path : List ℕ) (F : List Slot) (tells : TellsAll F) (trails : (i :
       fault_next : (n : ℕ) → ended n S F (length path) hart c ≡ stopped n S F (length path) c.next
       fault_next n = ap (λ (b : Bool). cond b (first_refusal F (asks S F hart c)) (stopped n S F (length path) c.next)) (ne_eqb c.next 0 some)
 
-      asked_next : asked S F (length path) hart c ≡ first_refused F (cond (length path == depth_limit) [] (record { page = c.next; word = 0; access = Write } ∷ []))
+      asked_next : refused_ask S F (length path) hart c ≡ first_refused F (cond (length path == depth_limit) [] (record { page = c.next; word = 0; access = Write } ∷ []))
       asked_next = ap (λ (b : Bool). first_refused F (cond b (asks S F hart c) (cond (length path == depth_limit) [] (record { page = c.next; word = 0; access = Write } ∷ [])))) (ne_eqb c.next 0 some)
 
       -- at the deepest level
@@ -171,7 +171,7 @@ module _ (S path : List ℕ) (F : List Slot) (tells : TellsAll F) (trails : (i :
         block_ask : Ask
         block_ask = record { page = c.next; word = 0; access = Write }
 
-        asked_block : asked S F (length path) hart c ≡ cond (is_some (refusal_at (slice_get F c.next) 0 Write)) (Some record { page = c.next; word = 0; access = Write }) None
+        asked_block : refused_ask S F (length path) hart c ≡ cond (is_some (refusal_at (slice_get F c.next) 0 Write)) (Some record { page = c.next; word = 0; access = Write }) None
         unfolding first_refused
         asked_block =
             asked_next
@@ -184,7 +184,7 @@ module _ (S path : List ℕ) (F : List Slot) (tells : TellsAll F) (trails : (i :
 
         -- the page of the block is open for writing
         module _ (slot : Slot) (g : ℕ) (there : slice_get F c.next ≡ Some slot) (writes : slot.write ≡ Open g) where
-          none_refused : asked S F (length path) hart c ≡ None
+          none_refused : refused_ask S F (length path) hart c ≡ None
           none_refused =
               asked_block
               ∙ ap (λ (o : Option Slot). cond (is_some (refusal_at o 0 Write)) (Some record { page = c.next; word = 0; access = Write }) None) there

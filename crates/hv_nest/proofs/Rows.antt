@@ -28,7 +28,7 @@ use Rattle.hv_nest.proofs.Told.{differences_itself}
 use Rattle.hv_nest.specs.declared.outcome.StepKind.{StepKind}
 use Rattle.hv_nest.specs.declared.outcome.StepKind.TheVariants.{Worked as WorkedKind, Recall, Fault}
 use Rattle.hv_nest.specs.Kinds.{step_as}
-use Rattle.hv_nest.specs.Step.{Stepped, Worked, Recalled, Faulted, Barred, Machine, idle, interrupted, worked, told, put_back, malformed, too_deep, child_step, child_through, child_at, descended, resumed, step_on, step_of, host_step_of}
+use Rattle.hv_nest.specs.Step.{Stepped, Worked, Recalled, Faulted, Barred, Machine, idle, interrupt_of, act_step, tell_of, put_back, malformed, too_deep, child_step, child_through, child_at, next_step, quiet_step, step_on, step_of, host_step_of}
 
 -- an interrupt has a number below 16
 all_small : List ℕ → Type 0
@@ -68,7 +68,7 @@ by_found : Machine → List ℕ → List Slot → ℕ → Regs → Option Found 
 by_found deeper S F j r None = Barred (too_deep r.next)
 by_found deeper S F j r (Some (Child g b)) =
     put_back S j r g (deeper S (compose S F j b.pages b.table b.version) (j + 1) 0 b.cpu)
-by_found deeper S F j r (Some (Malformed g)) = told S j r g (malformed j r.next)
+by_found deeper S F j r (Some (Malformed g)) = tell_of S j r g (malformed j r.next)
 by_found deeper S F j r (Some (Refused e)) = Barred e
 
 found_steps : (deeper : Machine) (S : List ℕ) (F : List Slot) (j : ℕ) (r : Regs) → child_at deeper S F j r (slice_get F r.next) ≡ by_found deeper S F j r (found_on S F r.next)
@@ -88,35 +88,35 @@ found_steps deeper S F j r = at (slice_get F r.next)
     at (Some slot) = through slot.write
 
 -- an interrupt is pending
-pub row_pending : (n : ℕ) (S : List ℕ) (F : List Slot) (j h : ℕ) (r : Regs) (k : ℕ) → Some k ≡ pending_of r → step_of n S F j h r ≡ interrupted S j r k
+pub row_pending : (n : ℕ) (S : List ℕ) (F : List Slot) (j h : ℕ) (r : Regs) (k : ℕ) → Some k ≡ pending_of r → step_of n S F j h r ≡ interrupt_of S j r k
 unfolding step_of
 row_pending zero S F j h r k e = ap (step_on None S F j h r) (sym e)
 row_pending (suc n) S F j h r k e = ap (step_on (Some (step_of n)) S F j h r) (sym e)
 
 -- none is pending
-without : (n : ℕ) (S : List ℕ) (F : List Slot) (j h : ℕ) (r : Regs) → None ≡ pending_of r → (deeper : Option Machine) × (step_of n S F j h r ≡ resumed deeper S F j h r)
+without : (n : ℕ) (S : List ℕ) (F : List Slot) (j h : ℕ) (r : Regs) → None ≡ pending_of r → (deeper : Option Machine) × (step_of n S F j h r ≡ quiet_step deeper S F j h r)
 unfolding step_of
 without zero S F j h r e = (None, ap (step_on None S F j h r) (sym e))
 without (suc n) S F j h r e = (Some (step_of n), ap (step_on (Some (step_of n)) S F j h r) (sym e))
 
-pub row_acts : (n : ℕ) (S : List ℕ) (F : List Slot) (j h : ℕ) (r : Regs) → None ≡ pending_of r → r.next ≡ 0 → step_of n S F j h r ≡ worked (act_of S F h r)
+pub row_acts : (n : ℕ) (S : List ℕ) (F : List Slot) (j h : ℕ) (r : Regs) → None ≡ pending_of r → r.next ≡ 0 → step_of n S F j h r ≡ act_step (act_of S F h r)
 row_acts n S F j h r e z =
     let w = without n S F j h r e in
-    w.1 ∙ ap (λ (b : Bool). cond b (worked (act_of S F h r)) (descended w.0 S F j r)) (eq-eqb r.next 0 z)
+    w.1 ∙ ap (λ (b : Bool). cond b (act_step (act_of S F h r)) (next_step w.0 S F j r)) (eq-eqb r.next 0 z)
 
 pub row_deepest : (n : ℕ) (S : List ℕ) (F : List Slot) (j h : ℕ) (r : Regs) → n ≡ 0 → None ≡ pending_of r → r.next ≢ 0 → step_of n S F j h r ≡ Barred (too_deep r.next)
 unfolding step_of
 row_deepest n S F j h r z e ne =
     ap (λ (m : ℕ). step_of m S F j h r) z
     ∙ ap (step_on None S F j h r) (sym e)
-    ∙ ap (λ (b : Bool). cond b (worked (act_of S F h r)) (Barred (too_deep r.next))) (ne_eqb r.next 0 ne)
+    ∙ ap (λ (b : Bool). cond b (act_step (act_of S F h r)) (Barred (too_deep r.next))) (ne_eqb r.next 0 ne)
 
 row_found : (n m : ℕ) (S : List ℕ) (F : List Slot) (j h : ℕ) (r : Regs) (o : Found) → n ≡ suc m → None ≡ pending_of r → r.next ≢ 0 → Some o ≡ found_on S F r.next → step_of n S F j h r ≡ by_found (step_of m) S F j r (Some o)
 unfolding step_of
 row_found n m S F j h r o is e ne f =
     ap (λ (k : ℕ). step_of k S F j h r) is
     ∙ ap (step_on (Some (step_of m)) S F j h r) (sym e)
-    ∙ ap (λ (b : Bool). cond b (worked (act_of S F h r)) (child_at (step_of m) S F j r (slice_get F r.next))) (ne_eqb r.next 0 ne)
+    ∙ ap (λ (b : Bool). cond b (act_step (act_of S F h r)) (child_at (step_of m) S F j r (slice_get F r.next))) (ne_eqb r.next 0 ne)
     ∙ found_steps (step_of m) S F j r
     ∙ ap (by_found (step_of m) S F j r) (sym f)
 
@@ -124,7 +124,7 @@ pub row_refused : (n m : ℕ) (S : List ℕ) (F : List Slot) (j h : ℕ) (r : Re
 unfolding by_found
 row_refused n m S F j h r e is p ne f = row_found n m S F j h r (Refused e) is p ne f
 
-pub row_malformed : (n m : ℕ) (S : List ℕ) (F : List Slot) (j h : ℕ) (r : Regs) (g : ℕ) → n ≡ suc m → None ≡ pending_of r → r.next ≢ 0 → Some (Malformed g) ≡ found_on S F r.next → step_of n S F j h r ≡ told S j r g (malformed j r.next)
+pub row_malformed : (n m : ℕ) (S : List ℕ) (F : List Slot) (j h : ℕ) (r : Regs) (g : ℕ) → n ≡ suc m → None ≡ pending_of r → r.next ≢ 0 → Some (Malformed g) ≡ found_on S F r.next → step_of n S F j h r ≡ tell_of S j r g (malformed j r.next)
 unfolding by_found
 row_malformed n m S F j h r g is p ne f = row_found n m S F j h r (Malformed g) is p ne f
 
@@ -156,11 +156,11 @@ chain_child S xs ys h r s g b lt p is ne f e =
     (ap₂ (λ (F : List Slot) (j : ℕ). step_of m S F j 0 b.cpu) (sym (ap (map_along S) e ∙ map_along-snoc S xs x)) (sym longer)
     ∙ ap (λ (k : ℕ). step_of k S (map_along S ys) (length ys) 0 b.cpu) (sym rest))
 
-pub chain_malformed : (S : List ℕ) (xs : List Item) (h : ℕ) (r : Regs) (s g : ℕ) → length xs < depth_limit → None ≡ pending_of r → s ≡ r.next → s ≢ 0 → Some (Malformed g) ≡ found_on S (map_along S xs) s → step_of (depth_limit - length xs) S (map_along S xs) (length xs) h r ≡ told S (length xs) r g (malformed (length xs) s)
+pub chain_malformed : (S : List ℕ) (xs : List Item) (h : ℕ) (r : Regs) (s g : ℕ) → length xs < depth_limit → None ≡ pending_of r → s ≡ r.next → s ≢ 0 → Some (Malformed g) ≡ found_on S (map_along S xs) s → step_of (depth_limit - length xs) S (map_along S xs) (length xs) h r ≡ tell_of S (length xs) r g (malformed (length xs) s)
 chain_malformed S xs h r s g lt p is ne f =
     let fuel : depth_limit - length xs ≡ suc (depth_limit - (length xs + 1)) = omega arith in
     row_malformed (depth_limit - length xs) (depth_limit - (length xs + 1)) S (map_along S xs) (length xs) h r g fuel p (λ z. ne (is ∙ z)) (f ∙ ap (found_on S (map_along S xs)) is)
-    ∙ ap (λ (k : ℕ). told S (length xs) r g (malformed (length xs) k)) (sym is)
+    ∙ ap (λ (k : ℕ). tell_of S (length xs) r g (malformed (length xs) k)) (sym is)
 
 pub chain_refused : (S : List ℕ) (xs : List Item) (h : ℕ) (r : Regs) (s : ℕ) (e : Refusal) → length xs < depth_limit → None ≡ pending_of r → s ≡ r.next → s ≢ 0 → Some (Refused e) ≡ found_on S (map_along S xs) s → step_of (depth_limit - length xs) S (map_along S xs) (length xs) h r ≡ Barred e
 chain_refused S xs h r s e lt p is ne f =
@@ -202,7 +202,7 @@ unfolding map_along along
 host_pages S xs e = ap (λ (ys : List Item). length (map_along S ys)) e ∙ length-identity (page_count S)
 
 -- the bare machine, where it runs no other
-pub host_acts : (S : List ℕ) (h : ℕ) (r : Regs) → None ≡ pending_of r → r.next ≡ 0 → host_step_of S h r ≡ worked (act_of S (identity (page_count S)) h r)
+pub host_acts : (S : List ℕ) (h : ℕ) (r : Regs) → None ≡ pending_of r → r.next ≡ 0 → host_step_of S h r ≡ act_step (act_of S (identity (page_count S)) h r)
 unfolding host_step_of
 host_acts S h r e z = row_acts depth_limit S (identity (page_count S)) 0 h r e z
 

@@ -17,7 +17,7 @@ use Rattle.hv_block.proofs.Blocks.{block_alike, block_sized}
 use Rattle.hv_map.specs.Carried.{WayLike, SlotLike, MapLike}
 use Rattle.hv_map.specs.Compose.{compose, reading}
 use Rattle.hv_map.proofs.Like.{composed_like}
-use Rattle.hv_nest.specs.Step.{Stepped, Worked, Recalled, Faulted, Barred, Machine, idle, interrupted, worked, told, put_back, malformed, too_deep, child_step, child_through, child_at, descended, step_on, step_with, step_of}
+use Rattle.hv_nest.specs.Step.{Stepped, Worked, Recalled, Faulted, Barred, Machine, idle, interrupt_of, act_step, tell_of, put_back, malformed, too_deep, child_step, child_through, child_at, next_step, step_on, step_with, step_of}
 use Rattle.hv_nest.specs.Simulation.{Sees, Simulation, raised, StepLike, refused_further_out, both_work, both_recall, both_fault, both_refused}
 use Rattle.hv_nest.proofs.SimulatedAsks.{refused_below, refused_raised, opened}
 use Rattle.hv_nest.proofs.SimulatedActs.{ActLike, act_further_out, both_done, act_refused, act_like}
@@ -44,15 +44,15 @@ module _ (k : ℕ) (F : List Slot) (R : List ℕ → List ℕ → Type 0) (sim :
   sees = sim.sees S T related
 
   module _ (y x : ℕ) (is_open : reading F y ≡ Some (Open x)) where
-    told_below : (j : ℕ) (r : Regs) (e : Refusal) (Y : Stepped) → e.level < k → StepLike k R (told S (j + k) r x e) Y
+    told_below : (j : ℕ) (r : Regs) (e : Refusal) (Y : Stepped) → e.level < k → StepLike k R (tell_of S (j + k) r x e) Y
     told_below j r e Y low =
         let ne : e.level ≡ j + k → ⊥ = λ f. omega (arith, f, low) in
         subst (λ (t : Bool). StepLike k R (cond t (Faulted (j + k) e.cause e.address e.access (with_fault S x e.cause e.address (access_word e.access)) (idle r)) (Barred e)) Y) (sym (ne_eqb e.level (j + k) ne))
         (refused_further_out e Y low)
 
-    told_like : (j : ℕ) (r : Regs) (e : Refusal) → StepLike k R (told S (j + k) r x (raised k e)) (told T j r y e)
+    told_like : (j : ℕ) (r : Regs) (e : Refusal) → StepLike k R (tell_of S (j + k) r x (raised k e)) (tell_of T j r y e)
     told_like j r e =
-        subst (λ (t : Bool). StepLike k R (cond t (Faulted (j + k) e.cause e.address e.access (with_fault S x e.cause e.address (access_word e.access)) (idle r)) (Barred (raised k e))) (told T j r y e)) (sym (same_test e.level j k))
+        subst (λ (t : Bool). StepLike k R (cond t (Faulted (j + k) e.cause e.address e.access (with_fault S x e.cause e.address (access_word e.access)) (idle r)) (Barred (raised k e))) (tell_of T j r y e)) (sym (same_test e.level j k))
         (by (e.level == j))
       where
         by : (t : Bool)
@@ -74,15 +74,15 @@ module _ (k : ℕ) (F : List Slot) (R : List ℕ → List ℕ → Type 0) (sim :
         both_fault l c p a (put_regs A x q) (put_regs B y q) r (put_regs_like k F R sim y x is_open A B q h)
     put_back_like j r X Y (both_refused e) = told_like j r e
 
-  interrupted_like : (j : ℕ) (r : Regs) (n : ℕ) → StepLike k R (interrupted S (j + k) r n) (interrupted T j r n)
+  interrupted_like : (j : ℕ) (r : Regs) (n : ℕ) → StepLike k R (interrupt_of S (j + k) r n) (interrupt_of T j r n)
   interrupted_like j r n = by (r.next == 0)
     where
       by : (t : Bool) → StepLike k R (cond t (Worked S (take_trap_of r n true 0)) (Recalled (j + k) S (idle r))) (cond t (Worked T (take_trap_of r n true 0)) (Recalled j T (idle r)))
       by true = both_work S T (take_trap_of r n true 0) related
       by false = both_recall j S T (idle r) related
 
-  worked_like : (A B : Acted) → ActLike k R A B → StepLike k R (worked A) (worked B)
-  worked_like A B (act_further_out e C low) = refused_further_out e (worked C) low
+  worked_like : (A B : Acted) → ActLike k R A B → StepLike k R (act_step A) (act_step B)
+  worked_like A B (act_further_out e C low) = refused_further_out e (act_step C) low
   worked_like A B (both_done U V q h) = both_work U V q h
   worked_like A B (act_refused e) = both_refused e
 
@@ -101,10 +101,10 @@ module _ (k : ℕ) (F : List Slot) (R : List ℕ → List ℕ → Type 0) (sim :
       by (suc n) e = too_deep_below s (Barred (too_deep s)) (omega (arith, e))
 
   module _ (H G : List Slot) (like : MapLike k F H G) (j : ℕ) where
-    with_like : (d d' : Option Machine) (hart : ℕ) (r : Regs) → StepLike k R (descended d S H (j + k) r) (descended d' T G j r) → StepLike k R (step_with d S H (j + k) hart r) (step_with d' T G j hart r)
+    with_like : (d d' : Option Machine) (hart : ℕ) (r : Regs) → StepLike k R (next_step d S H (j + k) r) (next_step d' T G j r) → StepLike k R (step_with d S H (j + k) hart r) (step_with d' T G j hart r)
     with_like d d' hart r deep = by (pending_of r)
       where
-        going : (t : Bool) → StepLike k R (cond t (worked (act_of S H hart r)) (descended d S H (j + k) r)) (cond t (worked (act_of T G hart r)) (descended d' T G j r))
+        going : (t : Bool) → StepLike k R (cond t (act_step (act_of S H hart r)) (next_step d S H (j + k) r)) (cond t (act_step (act_of T G hart r)) (next_step d' T G j r))
         going true = worked_like (act_of S H hart r) (act_of T G hart r) (act_like k F R sim S T related H G like hart r)
         going false = deep
 
@@ -158,7 +158,7 @@ module _ (k : ℕ) (F : List Slot) (R : List ℕ → List ℕ → Type 0) (sim :
       slot_like (Some h) None e = absurd e
       slot_like (Some h) (Some g) e = through_like h.write g.write (e Write)
 
-      descended_like : StepLike k R (descended (Some d) S H (j + k) r) (descended (Some d') T G j r)
+      descended_like : StepLike k R (next_step (Some d) S H (j + k) r) (next_step (Some d') T G j r)
       descended_like = slot_like (slice_get H r.next) (slice_get G r.next) (like r.next)
 
 -- where S may have n more levels beneath, T may have k more
@@ -169,7 +169,7 @@ step_like k F R sim zero zero e S T H G j hart r related like =
 step_like k F R sim zero (suc m) e S T H G j hart r related like =
     let below : 0 < k = omega (arith, e) in
     with_like k F R sim S T related H G like j None (Some (step_of m)) hart r
-    (too_deep_below k F R sim S T related r.next (descended (Some (step_of m)) T G j r) below)
+    (too_deep_below k F R sim S T related r.next (next_step (Some (step_of m)) T G j r) below)
 step_like k F R sim (suc n) zero e S T H G j hart r related like = absurd (omega (arith, e))
 step_like k F R sim (suc n) (suc m) e S T H G j hart r related like =
     let less : m ≡ n + k = omega (arith, e) in

@@ -40,8 +40,8 @@ asks_at_end S F k hart c =
     else record { page = c.next; word = 0; access = Write } ∷ []
 
 -- the ask that is refused, if one is
-abbrev pub asked : List ℕ → List Slot → ℕ → ℕ → Regs → Option Ask
-asked S F k hart c = first_refused F (asks_at_end S F k hart c)
+abbrev pub refused_ask : List ℕ → List Slot → ℕ → ℕ → Regs → Option Ask
+refused_ask S F k hart c = first_refused F (asks_at_end S F k hart c)
 
 -- the page of the block can be written, and the block in it is malformed
 pub record HasMalformed (S : List ℕ) (F : List Slot) (page : ℕ) : Type 0 where
@@ -84,8 +84,8 @@ pub record IsRouted (S path : List ℕ) (F : List Slot) (hart : ℕ) (c : Regs) 
   pub block : IsFault fault 6 (length path) ↔ ((c.next ≢ 0) × (length path < depth_limit) × HasMalformed S F c.next)
   pub block_told : IsFault fault 6 (length path) → fault ≡ Some (malformed (length path) c.next)
   -- the machine whose map refuses first is told what was asked of it
-  pub map : IsMapFault fault ↔ IsSome (asked S F (length path) hart c)
-  pub map_told : IfSome (asked S F (length path) hart c) (λ q. fault ≡ refusal_on_trail S path q)
+  pub map : IsMapFault fault ↔ IsSome (refused_ask S F (length path) hart c)
+  pub map_told : IfSome (refused_ask S F (length path) hart c) (λ q. fault ≡ refusal_on_trail S path q)
   -- there is no other fault
   pub whole : IfSome fault (λ e. IsFault fault 5 0 ⊎ (IsFault fault 6 (length path) ⊎ IsMapFault fault))
 
@@ -98,6 +98,6 @@ RoutingLaw =
     → (items : List Item)
     × (pin_of S (running_path S r) ≡ Some items)
     × (IsTrue (is_calm S items r)
-      → IsRouted S (running_path S r) (map_along S items) (hart_along items hart) (regs_along S items r)
-        (fault_of (host_step_of S hart r)))
+    → IsRouted S (running_path S r) (map_along S items) (hart_along items hart) (regs_along S items r)
+    (fault_of (host_step_of S hart r)))
     × (IsFalse (is_calm S items r) → fault_of (host_step_of S hart r) ≡ None)

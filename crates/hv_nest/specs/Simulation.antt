@@ -77,4 +77,4 @@ InnerSimulationLaw =
     → Sees k F S T
     → MapLike k F H G
     → StepLike k (StillSees k F S T) (step_of (depth_limit - (j + k)) S H (j + k) hart r)
-      (step_of (depth_limit - j) T G j hart r)
+    (step_of (depth_limit - j) T G j hart r)

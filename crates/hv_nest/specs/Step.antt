@@ -38,17 +38,17 @@ abbrev pub idle : Regs → Regs
 idle r = record r { next = 0 }
 
 -- an interrupt is taken; where a child runs, the machine gets control back first
-abbrev pub interrupted : List ℕ → ℕ → Regs → ℕ → Stepped
-interrupted S j r k = if r.next == 0 then Worked S (take_trap_of r k true 0) else Recalled j S (idle r)
+abbrev pub interrupt_of : List ℕ → ℕ → Regs → ℕ → Stepped
+interrupt_of S j r k = if r.next == 0 then Worked S (take_trap_of r k true 0) else Recalled j S (idle r)
 
-abbrev pub worked : Acted → Stepped
-worked (Done S r) = Worked S r
-worked (Refused e) = Barred e
+abbrev pub act_step : Acted → Stepped
+act_step (Done S r) = Worked S r
+act_step (Refused e) = Barred e
 
 -- A refusal for the machine at level j, whose child's block is in bare page g, is told in that block, and the machine
 -- gets control back; one for a machine further out is passed on.
-abbrev pub told : List ℕ → ℕ → Regs → ℕ → Refusal → Stepped
-told S j r g e =
+abbrev pub tell_of : List ℕ → ℕ → Regs → ℕ → Refusal → Stepped
+tell_of S j r g e =
     if e.level == j
     then Faulted j e.cause e.address e.access (with_fault S g e.cause e.address (access_word e.access)) (idle r)
     else Barred e
@@ -58,7 +58,7 @@ abbrev pub put_back : List ℕ → ℕ → Regs → ℕ → Stepped → Stepped
 put_back S j r g (Worked T q) = Worked (put_regs T g q) r
 put_back S j r g (Recalled l T q) = Recalled l (put_regs T g q) r
 put_back S j r g (Faulted l c address a T q) = Faulted l c address a (put_regs T g q) r
-put_back S j r g (Barred e) = told S j r g e
+put_back S j r g (Barred e) = tell_of S j r g e
 
 -- a malformed block is a refusal for the machine that holds it
 abbrev pub malformed : ℕ → ℕ → Refusal
@@ -70,7 +70,7 @@ too_deep s = record { level = 0; cause = 5; address = 4096 * s; access = Read }
 
 -- the child whose block is in bare page g makes the step; it is hart 0 of its machine
 abbrev pub child_step : Machine → List ℕ → List Slot → ℕ → Regs → ℕ → Option Held → Stepped
-child_step deeper S F j r g None = told S j r g (malformed j r.next)
+child_step deeper S F j r g None = tell_of S j r g (malformed j r.next)
 child_step deeper S F j r g (Some held) =
     put_back S j r g (deeper S (compose S F j held.pages held.table held.version) (j + 1) 0 held.regs)
 
@@ -83,17 +83,17 @@ abbrev pub child_at : Machine → List ℕ → List Slot → ℕ → Regs → Op
 child_at deeper S F j r None = Barred (too_deep r.next)
 child_at deeper S F j r (Some slot) = child_through deeper S F j r slot.write
 
-abbrev pub descended : Option Machine → List ℕ → List Slot → ℕ → Regs → Stepped
-descended None S F j r = Barred (too_deep r.next)
-descended (Some deeper) S F j r = child_at deeper S F j r (slice_get F r.next)
+abbrev pub next_step : Option Machine → List ℕ → List Slot → ℕ → Regs → Stepped
+next_step None S F j r = Barred (too_deep r.next)
+next_step (Some deeper) S F j r = child_at deeper S F j r (slice_get F r.next)
 
-abbrev pub resumed : Option Machine → List ℕ → List Slot → ℕ → ℕ → Regs → Stepped
-resumed deeper S F j hart r =
-    if r.next == 0 then worked (act_of S F hart r) else descended deeper S F j r
+abbrev pub quiet_step : Option Machine → List ℕ → List Slot → ℕ → ℕ → Regs → Stepped
+quiet_step deeper S F j hart r =
+    if r.next == 0 then act_step (act_of S F hart r) else next_step deeper S F j r
 
 abbrev pub step_on : Option Machine → List ℕ → List Slot → ℕ → ℕ → Regs → Option ℕ → Stepped
-step_on deeper S F j hart r (Some k) = interrupted S j r k
-step_on deeper S F j hart r None = resumed deeper S F j hart r
+step_on deeper S F j hart r (Some k) = interrupt_of S j r k
+step_on deeper S F j hart r None = quiet_step deeper S F j hart r
 
 abbrev pub step_with : Option Machine → Machine
 step_with deeper S F j hart r = step_on deeper S F j hart r (pending_of r)

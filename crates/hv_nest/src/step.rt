@@ -1,6 +1,6 @@
 //! One step of a machine, with the machines inside it.
 
-ghost use Rattle.std.specs.Prelude.{◌≡◌, ◌≢◌, ℕ, ◌+◌, ◌-◌, ◌<◌, ◌≤◌, [], IfErr, IfNone, IfSome, OnErr, OnOk, List, length};
+ghost use Rattle.std.specs.Prelude.{◌≡◌, ◌≢◌, ℕ, ◌+◌, ◌-◌, ◌<◌, ◌≤◌, ◌^◌, [], IfErr, IfNone, IfSome, OnErr, OnOk, List, length};
 ghost use Rattle.hv_word.specs.Storage.{page_count};
 ghost use Rattle.hv_exec.specs.Act.{act_of};
 ghost use Rattle.hv_block.specs.Block.{access_word};
@@ -12,7 +12,7 @@ ghost use Rattle.hv_nest.specs.Frame.{IsFramedBy};
 ghost use Rattle.hv_nest.specs.Notes.{undone};
 ghost use Rattle.hv_nest.specs.Noted.{AreNoted, NothingDone};
 ghost use Rattle.hv_store.specs.Access.{identity};
-ghost use Rattle.hv_nest.specs.Step.{Worked, idle, interrupted, worked, told, step_of, host_step_of};
+ghost use Rattle.hv_nest.specs.Step.{Worked, idle, interrupt_of, act_step, tell_of, too_deep, malformed, step_of, host_step_of};
 ghost use Rattle.hv_nest.specs.Kinds.{step_as, step_result, NextBelow};
 
 use crate::changed::Changed;
@@ -96,7 +96,7 @@ fn bare_step(store: &mut Store, cpu: &mut Cpu, hart: u32) -> Outcome
 fn act_bare(store: &mut Store, notes: &mut Notes, hart: u32, cpu: &mut Cpu)
     requires fresh { notes.old ≡ [] }
     requires next { cpu.old.next ≡ 0 }
-    ensures acts { Worked store.new cpu.new ≡ worked (act_of store.old (identity (page_count store.old)) hart cpu.old) }
+    ensures acts { Worked store.new cpu.new ≡ act_step (act_of store.old (identity (page_count store.old)) hart cpu.old) }
     ensures next { NextBelow (page_count store.old) cpu.new }
     ensures len { length store.new ≡ length store.old }
     ensures origin { undone store.new notes.new ≡ store.old }
@@ -136,12 +136,7 @@ pub(crate) fn step_at(
     };
     let _pages = chain.pages(store);
     if level as usize == DEPTH {
-        return Err(Refusal {
-            level: 0,
-            cause: 5,
-            address: 4096 * page,
-            access: Access::Read,
-        });
+        return Err(too_deep(page));
     }
     match child(store, chain, page) {
         Found::Child { host, block } => {
@@ -155,20 +150,36 @@ pub(crate) fn step_at(
                 Err(refusal) => tell(store, notes, level, cpu, host, refusal),
             }
         }
-        Found::Malformed { host } => tell(
-            store,
-            notes,
-            level,
-            cpu,
-            host,
-            Refusal {
-                level,
-                cause: 6,
-                address: 4096 * page,
-                access: Access::Read,
-            },
-        ),
+        Found::Malformed { host } => {
+            tell(store, notes, level, cpu, host, malformed(level, page))
+        }
         Found::Refused(refusal) => Err(refusal),
+    }
+}
+
+// A machine at the deepest level can't run another: the bare machine is told.
+fn too_deep(page: u32) -> Refusal
+    requires { page < 2 ^ 20 }
+    ensures { result ≡ too_deep page }
+{
+    Refusal {
+        level: 0,
+        cause: 5,
+        address: 4096 * page,
+        access: Access::Read,
+    }
+}
+
+// A malformed block is told to the machine that holds it, at `level`.
+fn malformed(level: u32, page: u32) -> Refusal
+    requires { page < 2 ^ 20 }
+    ensures { result ≡ malformed level page }
+{
+    Refusal {
+        level,
+        cause: 6,
+        address: 4096 * page,
+        access: Access::Read,
     }
 }
 
@@ -193,7 +204,7 @@ fn stop(cpu: &mut Cpu)
 // An interrupt is taken; where a machine is to run, its parent, at `level`, gets control back first.
 fn interrupt(cpu: &mut Cpu, level: u32, cause: u32) -> StepKind
     requires { cause < 16 }
-    ensures does { (S : List ℕ) → step_as result S cpu.new ≡ interrupted S level cpu.old cause }
+    ensures does { (S : List ℕ) → step_as result S cpu.new ≡ interrupt_of S level cpu.old cause }
     ensures next { cpu.old.next ≡ 0 → cpu.new.next ≡ 0 }
     ensures idle { cpu.old.next ≢ 0 → cpu.new.next ≡ 0 }
     ensures count { changed_regs cpu.old cpu.new ≤ 6 }
@@ -217,7 +228,7 @@ fn act_along(
 ) -> Result<StepKind, Refusal>
     requires fresh { notes.old ≡ [] }
     requires next { cpu.old.next ≡ 0 }
-    ensures acts { step_result result store.new cpu.new ≡ worked (act_of store.old (map_along store.old chain.now) hart cpu.old) }
+    ensures acts { step_result result store.new cpu.new ≡ act_step (act_of store.old (map_along store.old chain.now) hart cpu.old) }
     ensures next { NextBelow (length (map_along store.old chain.now)) cpu.new }
     ensures level { IfErr result (λ e. e.level < length chain.now) }
     ensures err { OnErr result (NothingDone store.old store.new cpu.old cpu.new notes.new) }
@@ -245,7 +256,7 @@ fn tell(
 ) -> Result<StepKind, Refusal>
     requires fresh { notes.old ≡ [] }
     requires host { host < page_count store.old }
-    ensures tells { step_result result store.new cpu.new ≡ told store.old level cpu.old host refusal }
+    ensures tells { step_result result store.new cpu.new ≡ tell_of store.old level cpu.old host refusal }
     ensures next { OnOk result (cpu.new.next ≡ 0) }
     ensures level { IfErr result (λ e. (e.level ≡ refusal.level) × (e.level ≢ level)) }
     ensures err { OnErr result (NothingDone store.old store.new cpu.old cpu.new notes.new) }

@@ -15,7 +15,7 @@ use Rattle.hv_map.specs.Compose.{compose}
 use Rattle.hv_map.specs.Chain.{along, child_next, run_on, running}
 use Rattle.hv_map.specs.Words.{IsChild, Chained, syllables}
 use Rattle.hv_map.proofs.Words.{follows}
-use Rattle.hv_nest.specs.Step.{Stepped, Worked, Recalled, Faulted, Barred, idle, interrupted, put_back, step_on, step_of}
+use Rattle.hv_nest.specs.Step.{Stepped, Worked, Recalled, Faulted, Barred, idle, interrupt_of, put_back, step_on, step_of}
 use Rattle.hv_nest.specs.Routing.{regs_along, hart_along}
 use Rattle.hv_nest.specs.Watched.{begins}
 use Rattle.hv_nest.proofs.Reasons.{next_some, resumed_goes}
@@ -73,7 +73,7 @@ goes n S F j x xs r child e = go (child_next S F r.next) refl e
         }
 
 -- a machine that runs a child takes control back for an interrupt
-interrupts : (S : List ℕ) (F : List Slot) (j k : ℕ) (r : Regs) (x : Item) (p : ℕ) → j < k → child_next S F r.next ≡ Some x → LowRecall k (interrupted S j r p)
+interrupts : (S : List ℕ) (F : List Slot) (j k : ℕ) (r : Regs) (x : Item) (p : ℕ) → j < k → child_next S F r.next ≡ Some x → LowRecall k (interrupt_of S j r p)
 interrupts S F j k r x p lt e = go r.next e
   where
     go : (s : ℕ) → child_next S F s ≡ Some x → LowRecall k (cond (s == 0) (Worked S (take_trap_of r p true 0)) (Recalled j S (idle r)))

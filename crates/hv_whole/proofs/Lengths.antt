@@ -26,7 +26,7 @@ use Rattle.hv_block.specs.Block.{Held, block_of, with_fault, access_word}
 use Rattle.hv_block.proofs.Words.{length-put_regs}
 use Rattle.hv_limits.specs.Limits.{depth_limit}
 use Rattle.hv_map.specs.Compose.{compose}
-use Rattle.hv_nest.specs.Step.{Stepped, Worked, Recalled, Faulted, Barred, Machine, idle, interrupted, worked, told, put_back, malformed, child_step, child_through, child_at, descended, step_on, step_of, host_step_of}
+use Rattle.hv_nest.specs.Step.{Stepped, Worked, Recalled, Faulted, Barred, Machine, idle, interrupt_of, act_step, tell_of, put_back, malformed, child_step, child_through, child_at, next_step, step_on, step_of, host_step_of}
 use Rattle.hv_nest.specs.State.{State}
 use Rattle.hv_nest.specs.Move.{Move, StepOf, LinesOf, moved_by, moved_at, lined_at, state_after}
 
@@ -138,12 +138,12 @@ StepsLong S (Recalled l T q) = length T ≡ length S
 StepsLong S (Faulted l c p a T q) = length T ≡ length S
 StepsLong S (Barred e) = Unit {0}
 
-worked_long : (S : List ℕ) (A : Acted) → ActsLong S A → StepsLong S (worked A)
+worked_long : (S : List ℕ) (A : Acted) → ActsLong S A → StepsLong S (act_step A)
 unfolding StepsLong
 worked_long S (Done T q) h = h
 worked_long S (Refused e) h = tt
 
-interrupted_long : (S : List ℕ) (j : ℕ) (r : Regs) (k : ℕ) → StepsLong S (interrupted S j r k)
+interrupted_long : (S : List ℕ) (j : ℕ) (r : Regs) (k : ℕ) → StepsLong S (interrupt_of S j r k)
 unfolding StepsLong
 interrupted_long S j r k = by (r.next == 0)
   where
@@ -151,7 +151,7 @@ interrupted_long S j r k = by (r.next == 0)
     by true = refl
     by false = refl
 
-told_long : (S : List ℕ) (j : ℕ) (r : Regs) (g : ℕ) (e : Refusal) → StepsLong S (told S j r g e)
+told_long : (S : List ℕ) (j : ℕ) (r : Regs) (g : ℕ) (e : Refusal) → StepsLong S (tell_of S j r g e)
 unfolding StepsLong
 told_long S j r g e = by (e.level == j)
   where
@@ -190,11 +190,11 @@ module _ (deeper : Machine) (long : IsLong deeper) (S : List ℕ) (F : List Slot
   at_long None = tt
   at_long (Some slot) = through_long slot.write
 
-step_on_long : (m : Option Machine) (S : List ℕ) (F : List Slot) (j hart : ℕ) (r : Regs) → StepsLong S (descended m S F j r) → (p : Option ℕ) → StepsLong S (step_on m S F j hart r p)
+step_on_long : (m : Option Machine) (S : List ℕ) (F : List Slot) (j hart : ℕ) (r : Regs) → StepsLong S (next_step m S F j r) → (p : Option ℕ) → StepsLong S (step_on m S F j hart r p)
 step_on_long m S F j hart r h (Some k) = interrupted_long S j r k
 step_on_long m S F j hart r h None = by (r.next == 0)
   where
-    by : (t : Bool) → StepsLong S (cond t (worked (act_of S F hart r)) (descended m S F j r))
+    by : (t : Bool) → StepsLong S (cond t (act_step (act_of S F hart r)) (next_step m S F j r))
     by true = worked_long S (act_of S F hart r) (act_long S F hart r)
     by false = h
 

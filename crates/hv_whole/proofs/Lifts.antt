@@ -9,7 +9,7 @@ use Rattle.hv_block.specs.Block.{regs_at, put_regs, with_fault, access_word, IsO
 use Rattle.hv_block.proofs.Blocks.{regs_alike}
 use Rattle.hv_block.proofs.Words.{length-put_regs, put_other, regs_back}
 use Rattle.hv_map.specs.Item.{Item}
-use Rattle.hv_nest.specs.Step.{Stepped, Worked, Recalled, Faulted, Barred, idle, told, put_back}
+use Rattle.hv_nest.specs.Step.{Stepped, Worked, Recalled, Faulted, Barred, idle, tell_of, put_back}
 use Rattle.hv_nest.specs.Routing.{regs_along}
 use Rattle.hv_whole.specs.Linked.{EachBlock, BlocksDiffer}
 use Rattle.hv_whole.proofs.Each.{deep, deep_is}
@@ -54,7 +54,7 @@ put_low S j k r g (Faulted l c a b T q) h = h
 put_low S j k r g (Barred e) h = absurd h
 
 told_low : (S : List ℕ) (j k : ℕ) (r : Regs) (g : ℕ) (e : Refusal) → j < k → (e.level < j + 1) ⊎ (k ≤ e.level)
-    → LowFault k (told S j r g e) ⊎ ((told S j r g e ≡ Barred e) × ((e.level < j) ⊎ (k ≤ e.level)))
+    → LowFault k (tell_of S j r g e) ⊎ ((tell_of S j r g e ≡ Barred e) × ((e.level < j) ⊎ (k ≤ e.level)))
 told_low S j k r g e lt side = go (e.level == j) refl
   where
     still : e.level ≢ j → (e.level < j + 1) ⊎ (k ≤ e.level) → (e.level < j) ⊎ (k ≤ e.level)

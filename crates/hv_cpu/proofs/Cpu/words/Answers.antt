@@ -13,4 +13,4 @@ returns c =
     let rest : c.copy_from_slice-2.new.self ≡ drop 32 (spelled (regs_of c.self.inside)) =
     c.copy_from_slice-2.ensures.after ∙ c.control_words.ensures ∙ ap (λ (r : Regs). drop 32 (spelled r)) (sym c.self.view_is)
     in
-    rw (first, rest, ← c.self.view_is) refl
+    rw (first, rest, ← c.self.view_is) (refl {a = spelled (regs_of c.self.inside)})

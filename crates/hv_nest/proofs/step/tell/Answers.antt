@@ -8,7 +8,7 @@ use Rattle.hv_nest.proofs.step.tell.Goals as goal
 pub returns-clause-noted : goal.returns-clause-noted
 returns-clause-noted c =
     let origin : undone c.put_fault.new.store c.put_fault.new.notes ≡ c.args.store.now =
-        c.put_fault.ensures.origin ∙ undone_none c.args.store.now c.args.notes.now c.requires.fresh in
+    c.put_fault.ensures.origin ∙ undone_none c.args.store.now c.args.notes.now c.requires.fresh in
     record {
       len = length_noted c.args.store.now c.put_fault.new.store c.put_fault.new.notes origin;
       origin = origin;

@@ -1,5 +1,5 @@
 use Rattle.std.proofs.Common.{refl, sym, subst, OnOk}
-use Rattle.hv_job.specs.declared.job.DebugCommand.{DebugCommand}
+use Rattle.hv_line.specs.declared.types.DebugCommand.{DebugCommand}
 use Rattle.hv_debug.specs.Reaching.{Goes}
 use Rattle.hv_debug.specs.Transcript.{answered}
 use Rattle.hv_debug.proofs.Sessions.{stays}

@@ -1,31 +1,19 @@
 -- What is written for a text: what is told of its job and of the start that the job is built to, or the refusal of the
 -- first line that is refused, in the text or else when the job is built.
-use Rattle.std.specs.Prelude.{ℕ, List, Result, Ok, Err, codes}
+use Rattle.std.specs.Prelude.{ℕ, List, Result, Ok, Err}
 use Rattle.hv_job.specs.JobOf.{job_of}
 use Rattle.hv_job.specs.declared.job.Job.{Job}
 use Rattle.hv_line.specs.declared.kinds.JobKind.{JobKind}
 use Rattle.hv_line.specs.Kinds.{kind_word}
 use Rattle.hv_load.specs.Build.{build_of}
 use Rattle.hv_load.specs.declared.ends.BuildKind.{BuildKind}
-use Rattle.hv_load.specs.declared.ends.BuildKind.TheVariants as build
+use Rattle.hv_load.specs.Kinds.{kind_word as build_word}
 use Rattle.hv_load.specs.declared.start.Start.{Start}
 use Rattle.hv_top.specs.Output.{Output, Text, refusal}
 
--- why a directive can't be done
-abbrev pub build_kind_text : BuildKind → List ℕ
-build_kind_text build.Hart = codes "hart"
-build_kind_text build.Many = codes "many"
-build_kind_text build.Unknown = codes "unknown"
-build_kind_text build.Depth = codes "depth"
-build_kind_text build.Repeat = codes "repeat"
-build_kind_text build.Outside = codes "outside"
-build_kind_text build.Absent = codes "absent"
-build_kind_text build.Overlap = codes "overlap"
-build_kind_text build.Watch = codes "watch"
-
 abbrev pub built_output : (Job → Start → List ℕ) → Job → Result Start (ℕ × BuildKind) → Output
 built_output tell job (Ok start) = Text (tell job start)
-built_output tell job (Err (number, kind)) = refusal number (build_kind_text kind)
+built_output tell job (Err (number, kind)) = refusal number (build_word kind)
 
 -- what is told of a job and its start, or the refusal of the first line that can't be built
 abbrev pub started_output : (Job → Start → List ℕ) → Job → Output

@@ -3,12 +3,11 @@
 ghost use Rattle.std.specs.Prelude.{◌≡◌, ◌≤◌, length, IfOk};
 ghost use Rattle.hv_limits.specs.Limits.{input_limit};
 ghost use Rattle.hv_job.specs.IsJob.{IsJob};
-ghost use Rattle.hv_top.specs.Jobs.{build_kind_text as build_kind_text_of};
 ghost use Rattle.hv_top.specs.Opening.{IsOpening, IsStarting};
 
 use crate::answer::{Answer, refused};
 use hv_job::{Job, JobEnd, parse_job};
-use hv_load::{BuildEnd, BuildKind, Start, build};
+use hv_load::{BuildEnd, Start, build};
 use std::alloc::{AllocError, Global};
 
 /// A job with the start that it is built to, or the refusal of the first line that is refused.
@@ -44,26 +43,9 @@ fn started(alloc: Global, job: Job) -> Result<Opening, AllocError>
     match build(alloc, &job) {
         Ok(start) => Ok(Opening::Ready { job, start }),
         Err(BuildEnd::BuildFault { line, kind }) => {
-            let answer = refused(alloc, line, build_kind_text(kind))?;
+            let answer = refused(alloc, line, kind.word())?;
             Ok(Opening::Refused(answer))
         }
         Err(BuildEnd::Memory) => Err(AllocError),
-    }
-}
-
-// Why a directive can't be done.
-fn build_kind_text(kind: BuildKind) -> &'static str
-    ensures { result.now ≡ build_kind_text_of kind }
-{
-    match kind {
-        BuildKind::Hart => "hart",
-        BuildKind::Many => "many",
-        BuildKind::Unknown => "unknown",
-        BuildKind::Depth => "depth",
-        BuildKind::Repeat => "repeat",
-        BuildKind::Outside => "outside",
-        BuildKind::Absent => "absent",
-        BuildKind::Overlap => "overlap",
-        BuildKind::Watch => "watch",
     }
 }

@@ -11,7 +11,7 @@ use Rattle.hv_report.specs.Check.{checked_watch}
 use Rattle.hv_run.specs.Promises.{twin_after}
 use Rattle.hv_run.specs.Record.{WatchOf, told_by}
 use Rattle.hv_limits.specs.Limits.{kept_limit}
-use Rattle.hv_run.specs.Text.{line}
+use Rattle.hv_text.specs.Text.{line}
 use Rattle.hv_run.specs.Stands.{EachWatch}
 
 -- what `check` writes of a watch, and what the report writes of it

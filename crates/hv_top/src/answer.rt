@@ -12,8 +12,7 @@ use crate::debugging::debugged;
 use crate::dis::disassembled;
 use crate::generating::generated;
 use crate::running::reported;
-use hv_report::put_number;
-use hv_run::put;
+use hv_text::{put, put_line, put_number};
 use hv_words::Command;
 use std::alloc::{AllocError, Global};
 
@@ -58,10 +57,9 @@ pub fn refused(alloc: Global, line: u32, kind: &[u8]) -> Result<Answer, AllocErr
     ensures { IfOk result (λ answer. output_in answer ≡ refusal line kind.now) }
 {
     let mut text = Vec::new(alloc);
-    put_number(alloc, &mut text, b"refused line ", u64::from(line))?;
+    put_number(&mut text, b"refused line ", u64::from(line))?;
     put(&mut text, b": ")?;
-    put(&mut text, kind)?;
-    put(&mut text, b"\n")?;
+    put_line(&mut text, kind)?;
     Ok(Answer {
         text,
         refused: true,

@@ -7,7 +7,7 @@ ghost use Rattle.hv_top.specs.Asm.{asm_kind_text, asm_output, word_lines};
 
 use crate::answer::{Answer, refused, written};
 use hv_asm::{AsmEnd, AsmKind, assemble};
-use hv_run::{put, put_hex8};
+use hv_text::{hex8, put_line};
 use std::alloc::{AllocError, Global};
 
 /// The words of an assembly text whose first address is 0, each as eight hexadecimal digits on a line of its own, or the
@@ -33,8 +33,7 @@ fn put_words(out: &mut Vec<u8>, words: &[u32]) -> Result<(), AllocError>
     ensures { OnOk result (out.new.items ≡ out.old.items ++ word_lines words.now) }
 {
     for word in words {
-        put_hex8(out, *word)?;
-        put(out, b"\n")?;
+        put_line(out, &hex8(*word))?;
     }
     Ok(())
 }

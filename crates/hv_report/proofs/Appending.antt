@@ -1,7 +1,7 @@
--- One more row behind those that are written.
+-- One more piece of text behind those that are written.
 use Rattle.std.proofs.Common.{◌≡◌, ◌∙◌, ℕ, ◌+◌, List, [], ◌∷◌, ◌++◌, ap, sym, arith, append_assoc}
 use Rattle.std.specs.List.{flat_map, range_with_len}
-use Rattle.hv_report.specs.Dumps.{bytes_of, words_bytes, row_line, rows_text}
+use Rattle.hv_report.specs.Dumps.{bytes_of, words_bytes, page_line, first_lines}
 use Rattle.hv_nest.specs.State.{State}
 use Rattle.hv_report.specs.Report.{hart_text, first_harts}
 use Rattle.hv_apart.proofs.Growing.{range-push, flat_map-push}
@@ -22,14 +22,14 @@ pub bytes_more : (S : List ℕ) (g a n j : ℕ) (text : List ℕ) → a + n ≡ 
 unfolding words_bytes
 bytes_more S g a n j text e is = text_more (bytes_of S g) [] text a n j e is
 
--- the text of one row more
-pub rows_more : (S front text : List ℕ) (g n : ℕ) → text ≡ front ++ rows_text S g n → text ++ row_line S g n ≡ front ++ rows_text S g (n + 1)
-unfolding rows_text
-rows_more S front text g n is = text_more (row_line S g) front text 0 n n (omega arith) is
+-- the text of one line more
+pub lines_more : (S front text : List ℕ) (g n : ℕ) → text ≡ front ++ first_lines S g n → text ++ page_line S g n ≡ front ++ first_lines S g (n + 1)
+unfolding first_lines
+lines_more S front text g n is = text_more (page_line S g) front text 0 n n (omega arith) is
 
 -- the text of one hart more
 pub harts_more : (st : State) (front text : List ℕ) (n : ℕ) → text ≡ front ++ first_harts st n → text ++ hart_text st n ≡ front ++ first_harts st (n + 1)
 unfolding first_harts
 harts_more st front text n is = text_more (hart_text st) front text 0 n n (omega arith) is
 
-pub ruleset numbers = (bytes_more, rows_more, harts_more)
+pub ruleset one_more = (bytes_more, lines_more, harts_more)

@@ -1,5 +1,5 @@
 -- The words of a control block, read one after another.
-use Rattle.std.proofs.Common.{◌≡◌, ◌∙◌, ℕ, ◌+◌, ◌<◌, ◌≤◌, List, [], ◌∷◌, ◌++◌, length, take, set, map, ap, sym, arith}
+use Rattle.std.proofs.Common.{◌≡◌, ◌∙◌, ℕ, ◌+◌, ◌<◌, List, [], ◌∷◌, ◌++◌, length, take, set, map, ap, sym, arith}
 use Rattle.std.specs.List.{range_with_len}
 use Rattle.std.proofs.lemmas.List.{length-set, map-append, take_all, take_more_set}
 use Rattle.hv_word.specs.Storage.{word_at}
@@ -9,9 +9,11 @@ use Rattle.hv_report.specs.Report.{block_words}
 -- one word more
 pub words_more : (S words : List ℕ) (g n : ℕ) → n < length words → take n words ≡ map (word_at S g) (range_with_len 0 n) → take (n + 1) (set words n (word_at S g n)) ≡ map (word_at S g) (range_with_len 0 (n + 1))
 words_more S words g n lt is =
+    let place : n ≡ 0 + n = omega arith in
     take_more_set words n (word_at S g n) lt
     ∙ ap (λ (ws : List ℕ). ws ++ word_at S g n ∷ []) is
-    ∙ sym (map-append (word_at S g) (range_with_len 0 n) (n ∷ []))
+    ∙ ap (λ (k : ℕ). map (word_at S g) (range_with_len 0 n) ++ word_at S g k ∷ []) place
+    ∙ sym (map-append (word_at S g) (range_with_len 0 n) ((0 + n) ∷ []))
     ∙ ap (map (word_at S g)) (sym (range-push 0 n))
 
 -- the words 0 to 48, and then 64

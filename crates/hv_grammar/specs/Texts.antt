@@ -1,6 +1,6 @@
 -- The way of a text through its places, line by line: the header, the storage, the directives with the images among them, and
 -- then the commands of the debugger.
-use Rattle.std.specs.Prelude.{◌≡◌, ◌≢◌, ℕ, ◌-◌, ◌≤◌, true, List, [], ◌∷◌, length, take, codes, Ok, Err}
+use Rattle.std.specs.Prelude.{◌≡◌, ◌≢◌, ◌↔◌, ℕ, ◌-◌, ◌≤◌, true, List, [], ◌∷◌, length, take, codes, Ok, Err}
 use Rattle.hv_lex.specs.Lines.{lines_of}
 use Rattle.hv_job.specs.JobOf.{job_of}
 use Rattle.hv_line.specs.Lines.{is_allowed, words_of}
@@ -82,8 +82,9 @@ pub record IsTold (lines : List (List ℕ)) (job : Job) : Type 0 where
   pub within : IsWithin says
   pub is : job ≡ job_said 1 says
 
-abbrev pub AcceptedTextLaw : Type 0
-AcceptedTextLaw = (text : List ℕ) (job : Job) → job_of text ≡ Ok job → IsTold (lines_of text) job
+-- a text is a job exactly where its lines go all the way and say it, what they assemble is assembled, and the limits are kept
+abbrev pub JobTextLaw : Type 0
+JobTextLaw = (text : List ℕ) (job : Job) → (job_of text ≡ Ok job) ↔ IsTold (lines_of text) job
 
 -- The lines of a refused text in front of the line of this number, which is one of its lines, or would stand right behind the
 -- last one.

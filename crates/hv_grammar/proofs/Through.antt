@@ -13,7 +13,7 @@ use Rattle.hv_job.specs.declared.job.DebugLine.{DebugLine as Command}
 use Rattle.hv_job.specs.declared.job.Job.{Job}
 use Rattle.hv_line.proofs.Ranging.{then_ok}
 use Rattle.hv_grammar.specs.Said.{AreAssembled, Said, Called, Inner, Nothing, StorageOf, commands_by, commands_said, events_by, events_said, harts_said, inner_lines, job_said, placed_by, placed_said}
-use Rattle.hv_grammar.specs.Texts.{AcceptedTextLaw, AreGoodBefore, Goes, GoesOn, IsAllowed, IsTold, RefusedTextLaw, AmongCommands, AmongDirectives, BeforeHeader, BeforeStorage, InsideImage, NoWords, Header, StorageLine, InnerLine, EndLine, DebugLine, CommandLine}
+use Rattle.hv_grammar.specs.Texts.{AreGoodBefore, Goes, GoesOn, IsAllowed, IsTold, RefusedTextLaw, AmongCommands, AmongDirectives, BeforeHeader, BeforeStorage, InsideImage, NoWords, Header, StorageLine, InnerLine, EndLine, DebugLine, CommandLine}
 use Rattle.hv_grammar.proofs.Calls.{words_call}
 use Rattle.hv_grammar.proofs.Deeds.{Draft}
 use Rattle.hv_grammar.proofs.Formed.{storage_formed}
@@ -32,18 +32,18 @@ pub record AreCommands (commands : List Command) (n : ℕ) (all : List Command) 
   pub counted : harts_lines says ≡ 0
   pub assembled : AreAssembled says
 
-record IsCommanded (commands next : List Command) (n : ℕ) (line : List ℕ) : Type 0 where
-  said : Said
-  goes : Goes AmongCommands line said AmongCommands
-  is : next ≡ commands ++ commands_by n said
-  more : (all : List Command) (says : List Said) → AreCommands next (n + 1) all says → AreCommands commands n all (said ∷ says)
+pub record IsCommanded (commands next : List Command) (n : ℕ) (line : List ℕ) : Type 0 where
+  pub said : Said
+  pub goes : Goes AmongCommands line said AmongCommands
+  pub is : next ≡ commands ++ commands_by n said
+  pub more : (all : List Command) (says : List Said) → AreCommands next (n + 1) all says → AreCommands commands n all (said ∷ says)
 
-longer : (commands next by : List Command) (n : ℕ) (all : List Command) (says : List Said) → next ≡ commands ++ by → all ≡ next ++ commands_said (n + 1) says → all ≡ commands ++ (by ++ commands_said (n + 1) says)
+pub longer : (commands next by : List Command) (n : ℕ) (all : List Command) (says : List Said) → next ≡ commands ++ by → all ≡ next ++ commands_said (n + 1) says → all ≡ commands ++ (by ++ commands_said (n + 1) says)
 longer commands next by n all says next_is is =
     is ∙ ap (λ cs. cs ++ commands_said (n + 1) says) next_is ∙ append_assoc commands by (commands_said (n + 1) says)
 
 module _ (commands next : List Command) (n : ℕ) (line : List ℕ) where
-  skipped : IsAllowed line → words_of line ≡ [] → commands ≡ next → IsCommanded commands next n line
+  unfoldable pub skipped : IsAllowed line → words_of line ≡ [] → commands ≡ next → IsCommanded commands next n line
   skipped allowed none same =
       let is : next ≡ commands ++ [] = sym same ∙ sym (append-nil commands) in
       record {
@@ -60,7 +60,7 @@ module _ (commands next : List Command) (n : ℕ) (line : List ℕ) where
         };
       }
 
-  commanded : (what : DebugCommand) → IsAllowed line → command_of (words_of line) ≡ Ok what → next ≡ commands_with commands n (join_words_of (words_of line)) what → IsCommanded commands next n line
+  unfoldable pub commanded : (what : DebugCommand) → IsAllowed line → command_of (words_of line) ≡ Ok what → next ≡ commands_with commands n (join_words_of (words_of line)) what → IsCommanded commands next n line
   commanded what allowed is made = record {
     said = Called (words_of line) what;
     goes = CommandLine what allowed (words_call (words_of line) what is);
@@ -104,7 +104,7 @@ commands_good (line ∷ lines) n commands =
     (λ kind is. stops AmongCommands n (line ∷ lines))
 
 -- the job of a draft and what is said behind it
-abbrev job_behind : Draft → ℕ → List Said → Job
+abbrev pub job_behind : Draft → ℕ → List Said → Job
 job_behind draft n says = record {
   pages = draft.pages;
   harts = unwrap_or (or_first draft.harts (harts_said says)) 1;
@@ -113,11 +113,11 @@ job_behind draft n says = record {
   commands = commands_said n says;
 }
 
-record IsBehind (draft : Draft) (inside : Bool) (lines : List (List ℕ)) (n : ℕ) (job : Job) (says : List Said) : Type 0 where
-  is : job ≡ job_behind draft n says
-  counted : harts_count draft.harts + harts_lines says ≤ 1
-  assembled : AreAssembled says
-  inner : inside ≡ true → inner_lines says ≡ before_end lines
+pub record IsBehind (draft : Draft) (inside : Bool) (lines : List (List ℕ)) (n : ℕ) (job : Job) (says : List Said) : Type 0 where
+  pub is : job ≡ job_behind draft n says
+  pub counted : harts_count draft.harts + harts_lines says ≤ 1
+  pub assembled : AreAssembled says
+  pub inner : inside ≡ true → inner_lines says ≡ before_end lines
 
 at_most_one : (o : Option ℕ) → harts_count o ≤ 1
 at_most_one (Some n) = omega arith
@@ -128,7 +128,7 @@ none_first (Some n) = refl
 none_first None = refl
 
 -- behind the line `debug`
-debugged : (draft : Draft) (n : ℕ) (line : List ℕ) (lines : List (List ℕ)) (commands : List Command) (says : List Said) → AreCommands [] (n + 1) commands says → IsBehind draft false (line ∷ lines) n (job_in draft commands) (Nothing ∷ says)
+pub debugged : (draft : Draft) (n : ℕ) (line : List ℕ) (lines : List (List ℕ)) (commands : List Command) (says : List Said) → AreCommands [] (n + 1) commands says → IsBehind draft false (line ∷ lines) n (job_in draft commands) (Nothing ∷ says)
 debugged draft n line lines commands says are = record {
   is = λ i. record {
     pages = draft.pages;
@@ -143,28 +143,31 @@ debugged draft n line lines commands says are = record {
 }
 
 -- a text may end among the directives
+pub nothing_behind : (draft : Draft) (n : ℕ) → IsBehind draft false [] n (job_in draft []) []
+nothing_behind draft n = record {
+  is = λ i. record {
+    pages = draft.pages;
+    harts = (ap (λ o. unwrap_or o 1) (sym (none_first draft.harts))) i;
+    lines = (sym (append-nil draft.lines)) i;
+    recording = (sym (append-nil draft.recording)) i;
+    commands = [];
+  };
+  counted = (let one = at_most_one draft.harts in omega (arith, one));
+  assembled = tt;
+  inner = λ image. cc;
+}
+
 ended : (draft : Draft) (n : ℕ) → Whole AmongDirectives [] (IsBehind draft false [] n (job_in draft []))
 ended draft n = record {
   says = [];
   place = AmongDirectives;
   goes_on = refl;
   over = tt;
-  holds = record {
-    is = λ i. record {
-      pages = draft.pages;
-      harts = (ap (λ o. unwrap_or o 1) (sym (none_first draft.harts))) i;
-      lines = (sym (append-nil draft.lines)) i;
-      recording = (sym (append-nil draft.recording)) i;
-      commands = [];
-    };
-    counted = (let one = at_most_one draft.harts in omega (arith, one));
-    assembled = tt;
-    inner = λ image. cc;
-  };
+  holds = nothing_behind draft n;
 }
 
 -- the directives, where an image's lines may come first
-abbrev Going : List (List ℕ) → Type 0
+abbrev pub Going : List (List ℕ) → Type 0
 Going lines = (draft : Draft) (inside : Bool) (n : ℕ) → (inside ≡ true → Ends lines) → Good (place_in inside) n lines (IsBehind draft inside lines n) (body_from draft inside n lines)
 
 module _ (line : List ℕ) (lines : List (List ℕ)) (rest : Going lines) (draft : Draft) (n : ℕ) where
@@ -188,7 +191,7 @@ module _ (line : List ℕ) (lines : List (List ℕ)) (rest : Going lines) (draft
       })
       (body_from draft true (n + 1) lines) (rest draft true (n + 1) (λ image. ends_next line lines is ends))
 
-  told_step : (image : Bool) (next : Draft) (it : Said) → (t : Told draft n line lines image it next) → (job : Job) (says : List Said) → IsBehind next image lines (n + 1) job says → IsBehind draft false (line ∷ lines) n job (it ∷ says)
+  pub told_step : (image : Bool) (next : Draft) (it : Said) → (t : Told draft n line lines image it next) → (job : Job) (says : List Said) → IsBehind next image lines (n + 1) job says → IsBehind draft false (line ∷ lines) n job (it ∷ says)
   told_step image next it t job says behind =
       let placed : next.lines ≡ draft.lines ++ placed_by n it says = t.directives says behind.inner in
       record {
@@ -226,7 +229,7 @@ module _ (line : List ℕ) (lines : List (List ℕ)) (rest : Going lines) (draft
       (λ debug. let d = debug_says line debug in debug_step d.1 d.0 (commands_from [] (n + 1) lines) (commands_good lines (n + 1) []))
       (λ other. said (line_with draft n line lines) (line_says draft n line lines))
 
-body_good : (lines : List (List ℕ)) → Going lines
+pub body_good : (lines : List (List ℕ)) → Going lines
 unfolding body_from
 body_good [] draft true n ends = absurd (no_end (ends refl))
 body_good [] draft false n ends = ended draft n
@@ -234,10 +237,10 @@ body_good (line ∷ lines) draft true n ends = inside_step line lines (body_good
 body_good (line ∷ lines) draft false n ends = directive_step line lines (body_good lines) draft n
 
 -- the job is what is said from a line on
-record IsSaid (n : ℕ) (job : Job) (says : List Said) : Type 0 where
-  is : job ≡ job_said n says
-  counted : harts_lines says ≤ 1
-  assembled : AreAssembled says
+pub record IsSaid (n : ℕ) (job : Job) (says : List Said) : Type 0 where
+  pub is : job ≡ job_said n says
+  pub counted : harts_lines says ≤ 1
+  pub assembled : AreAssembled says
 
 -- a line that says nothing
 more_said : (n : ℕ) (job : Job) (says : List Said) → IsSaid (n + 1) job says → IsSaid n job (Nothing ∷ says)
@@ -298,7 +301,7 @@ told_of lines job read whole = record {
   is = whole.holds.is;
 }
 
-pub accepted : AcceptedTextLaw
+pub accepted : (text : List ℕ) (job : Job) → job_of text ≡ Ok job → IsTold (lines_of text) job
 accepted text job is =
     told_of (lines_of text) job (text_is text job is)
     (subst (λ (r : Result Job (ℕ × JobKind)). Good BeforeHeader 1 (lines_of text) (IsSaid 1) r) is (text_good text))

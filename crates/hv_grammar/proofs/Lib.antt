@@ -1,14 +1,15 @@
-pub mod Deeds
-pub mod Tests
-pub mod Means
-pub mod Formed
+pub mod Back
 pub mod Calls
-pub mod Steps
+pub mod Deeds
+pub mod Formed
 pub mod Inside
-pub mod Telling
-pub mod Through
-pub mod Ways
+mod Kinds
 pub mod Late
+pub mod Means
 pub mod Room
 pub mod Saying
-pub mod Back
+pub mod Steps
+pub mod Telling
+pub mod Tests
+pub mod Through
+pub mod Ways

@@ -1,4 +1,5 @@
 pub mod Forms
+pub mod Kinds
 pub mod Said
 pub mod Texts
 pub mod Within

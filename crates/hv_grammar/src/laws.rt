@@ -1,6 +1,7 @@
 //! What a job's lines look like. Each function here is empty: it states one law, which is proved.
 
 ghost use Rattle.hv_grammar.specs.Forms.{CommandFormLaw, LineFormLaw, StorageFormLaw};
+ghost use Rattle.hv_grammar.specs.Kinds.{KindWordLaw};
 ghost use Rattle.hv_grammar.specs.Texts.{JobTextLaw, RefusedTextLaw, ThroughTextLaw};
 
 /// A line among the directives says something exactly where its words are those of a form that says it, with every value in
@@ -35,4 +36,9 @@ pub fn lines_before_the_refused_one_are_good()
 /// assembled to, and for nothing else.
 pub fn texts_that_go_through_have_no_other_fault()
     ensures { ThroughTextLaw }
+{}
+
+/// A line of assembly inside an image is refused with the word that the assembler has for it.
+pub fn assembly_is_refused_in_its_own_words()
+    ensures { KindWordLaw }
 {}

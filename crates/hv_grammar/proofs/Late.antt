@@ -46,19 +46,19 @@ late_at n (Ok x) late = tt
 late_at n (Err kind) late = late
 
 -- by a test that is known
-yes_first : {A : Type 0} (M : A → Type 0) (b : Bool) (x y : A) → b ≡ true → M x → M (cond b x y)
+pub yes_first : {A : Type 0} (M : A → Type 0) (b : Bool) (x y : A) → b ≡ true → M x → M (cond b x y)
 yes_first M b x y is m = subst (λ b. M (cond b x y)) (sym is) m
 
-no_first : {A : Type 0} (M : A → Type 0) (b : Bool) (x y : A) → b ≡ false → M y → M (cond b x y)
+pub no_first : {A : Type 0} (M : A → Type 0) (b : Bool) (x y : A) → b ≡ false → M y → M (cond b x y)
 no_first M b x y is m = subst (λ b. M (cond b x y)) (sym is) m
 
-holds : {A : Type 0} (M : A → Type 0) (b : Bool) (x y : A) → b ≡ true → M y → M (cond (not b) x y)
+pub holds : {A : Type 0} (M : A → Type 0) (b : Bool) (x y : A) → b ≡ true → M y → M (cond (not b) x y)
 holds M b x y is m = subst (λ b. M (cond (not b) x y)) (sym is) m
 
-fails : {A : Type 0} (M : A → Type 0) (b : Bool) (x y : A) → b ≡ false → M x → M (cond (not b) x y)
+pub fails : {A : Type 0} (M : A → Type 0) (b : Bool) (x y : A) → b ≡ false → M x → M (cond (not b) x y)
 fails M b x y is m = subst (λ b. M (cond (not b) x y)) (sym is) m
 
-blank_has : (line : List ℕ) → words_of line ≡ [] → has_words line ≡ false
+pub blank_has : (line : List ℕ) → words_of line ≡ [] → has_words line ≡ false
 blank_has line none = ap (λ ws. nat_lt 0 (length ws)) none
 
 -- the commands
@@ -170,11 +170,11 @@ module _ (draft : Draft) (n : ℕ) (line : List ℕ) (lines : List (List ℕ)) w
       no_first {A = Result Draft (ℕ × JobKind)} Late (begins_with (codes "debug") (words_of line)) _ _ begun (
       subst (λ (r : Result Statement JobKind). Late (words_with draft n lines r)) (sym (form_means form (words_of line) is)) late)))
 
-  begins_it : (form : Form) → IsLine (words_of line) form → begins_image line ≡ is_image_form form
+  pub begins_it : (form : Form) → IsLine (words_of line) form → begins_image line ≡ is_image_form form
   unfolding begins_image
   begins_it form is = ap is_image (form_means form (words_of line) is) ∙ image_form form
 
-  blank_begins : words_of line ≡ [] → begins_image line ≡ false
+  pub blank_begins : words_of line ≡ [] → begins_image line ≡ false
   unfolding begins_image statement_of
   blank_begins none = ap (λ words. is_image (statement_of words)) none
 
@@ -182,12 +182,12 @@ and_late : (r : Result Draft (ℕ × JobKind)) (f : Draft → Result Job (ℕ ×
 and_late (Ok next) f late rest = rest next
 and_late (Err refusal) f late rest = late
 
-plain_begins : (form : Form) → IsPlain form → is_image_form form ≡ false
+pub plain_begins : (form : Form) → IsPlain form → is_image_form form ≡ false
 plain_begins (Harts harts) plain = refl
 plain_begins (Image name at) plain = absurd plain
 plain_begins _ plain = refl
 
-blank_not_debug : (line : List ℕ) → words_of line ≡ [] → is_debug line ≡ false
+pub blank_not_debug : (line : List ℕ) → words_of line ≡ [] → is_debug line ≡ false
 unfolding begins_with
 blank_not_debug line none = not_debug line (ap (begins_with (codes "debug")) none)
 
@@ -254,7 +254,7 @@ storage_late (line ∷ lines) (said ∷ says) to n over on =
     storage_step line lines says to n over on.0 (storage_late lines says to (n + 1) over) (way BeforeStorage line said on.0 on.1) on.2
 
 -- the header
-headed : (line : List ℕ) → words_of line ≡ codes "job" ∷ codes "1" ∷ [] → (has_words line ≡ true) × (is_header (words_of line) ≡ true)
+pub headed : (line : List ℕ) → words_of line ≡ codes "job" ∷ codes "1" ∷ [] → (has_words line ≡ true) × (is_header (words_of line) ≡ true)
 unfolding is_header
 headed line is = (ap (λ (ws : List (List ℕ)). nat_lt 0 (length ws)) is, ap is_header is)
 

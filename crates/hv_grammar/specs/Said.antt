@@ -43,8 +43,8 @@ inner_lines (StorageOf pages ∷ says) = []
 inner_lines (Directed form ∷ says) = []
 inner_lines (Called words what ∷ says) = []
 
--- The directives of a form; what is said behind it has the lines of its image. An entry of a map has its bit 0 set where the
--- page is there, and its bit 1 where it may be written.
+-- The directives of a form; what is said behind it has the lines of its image. An entry of a map has its bit 0 set
+-- where the page is there, and its bit 1 where it may be written.
 abbrev pub directives_by : Form → List Said → List Directive
 directives_by (Harts harts) behind = []
 directives_by (Hart hart at) behind = directive.Hart hart at ∷ []

@@ -1,16 +1,20 @@
 -- The job of a text keeps the ranges and the limits.
-use Rattle.std.proofs.Common.{◌≡◌, ℕ, ◌+◌, ◌%◌, ◌^◌, ◌<◌, ◌≤◌, Bool, true, false, not, cond, codes, List, [], ◌∷◌, ◌++◌, length, map, Option, Some, None, Result, Ok, Err, refl, sym, ap, ◌∙◌, subst, arith, append-nil}
+use Rattle.std.proofs.Common.{◌≡◌, ℕ, ◌+◌, ◌%◌, ◌^◌, ◌<◌, ◌≤◌, Bool, true, false, not, cond, codes, List, [], ◌∷◌, ◌++◌, length, map, Option, Some, None, Result, Ok, Err, refl, sym, ap, ◌∙◌, subst, arith, append-nil, length-append}
 use Rattle.std.specs.Prelude.{All, IfOk, filter_map, find, unwrap_or}
 use Rattle.std.specs.List.{cons_option}
+use Rattle.std.proofs.lemmas.Bool.{leb-false, ltb-false}
 use Rattle.std.proofs.lemmas.List.{map-append}
+use Rattle.std.proofs.lemmas.List.Sums.{sum_by-append}
 use Rattle.std.proofs.lemmas.List.Elements.{All-append, All-cons, All-nil, filter_map-append}
 use Rattle.hv_asm.specs.Assembly.{asm_of}
 use Rattle.hv_asm.specs.declared.AsmKind.{AsmKind}
 use Rattle.hv_asm.proofs.Extent.{asm_extent, lines_extent}
-use Rattle.hv_irq.specs.Events.{hart_of}
+use Rattle.hv_irq.specs.Events.{hart_of, refusal_of, steps_of, total_of}
 use Rattle.hv_irq.specs.declared.Event.{Event}
 use Rattle.hv_irq.specs.declared.Event.TheVariants as event
 use Rattle.hv_irq.specs.declared.PushEnd.{PushEnd}
+use Rattle.hv_irq.specs.declared.PushEnd.TheVariants as pushed
+use Rattle.hv_limits.specs.Limits.{events_limit, steps_limit}
 use Rattle.hv_lex.specs.Lines.{lines_of}
 use Rattle.hv_samples.specs.Samples.{sample_text}
 use Rattle.hv_line.specs.JobLimits.{job_dumps, job_harts, job_image_bytes, job_machines, job_watches}
@@ -46,6 +50,8 @@ pub record IsDraft (draft : Draft) : Type 0 where
   pub watches : count_of is_watch draft.lines ≤ job_watches
   pub dumps : count_of is_dump draft.lines ≤ job_dumps
   pub images : image_bytes draft.lines ≤ job_image_bytes
+  pub steps : total_of draft.recording ≤ steps_limit
+  pub many : length draft.recording ≤ events_limit
 
 draft_start : (pages : ℕ) → IsSize pages → IsDraft (draft_of pages)
 draft_start pages size = record {
@@ -57,6 +63,8 @@ draft_start pages size = record {
   watches = omega arith;
   dumps = omega arith;
   images = omega arith;
+  steps = omega arith;
+  many = omega arith;
 }
 
 all_one : (what : Directive) (n : ℕ) → IsRanged what → (lines : List Placed) → All (λ p. IsRanged p.what) lines → All (λ p. IsRanged p.what) (lines_with lines n what)
@@ -65,8 +73,8 @@ all_one what n ranged lines all =
     (All-cons (λ (p : Placed). IsRanged p.what) (record { line = n; what = what }) [] ranged (All-nil (λ (p : Placed). IsRanged p.what)))
 
 -- one more directive
-grown : (draft : Draft) (n : ℕ) (what : Directive) (recording : List Event) → IsDraft draft → is_many draft.lines what ≡ false → IsRanged what → map happening_of recording ≡ map happening_of draft.recording ++ cons_option (event_in what) [] → IsDraft (record draft { lines = lines_with draft.lines n what; recording = recording })
-grown draft n what recording is few ranged events = record {
+grown : (draft : Draft) (n : ℕ) (what : Directive) (recording : List Event) → IsDraft draft → is_many draft.lines what ≡ false → IsRanged what → map happening_of recording ≡ map happening_of draft.recording ++ cons_option (event_in what) [] → total_of recording ≤ steps_limit → length recording ≤ events_limit → IsDraft (record draft { lines = lines_with draft.lines n what; recording = recording })
+grown draft n what recording is few ranged events steps many = record {
   pages = is.pages;
   harts = is.harts;
   lines = all_one what n ranged draft.lines is.lines;
@@ -77,6 +85,8 @@ grown draft n what recording is few ranged events = record {
   watches = omega (arith, counted is_watch draft.lines n what, room_watches draft.lines what few is.watches);
   dumps = omega (arith, counted is_dump draft.lines n what, room_dumps draft.lines what few is.dumps);
   images = omega (arith, sized draft.lines n what, room_bytes draft.lines what few is.images);
+  steps = steps;
+  many = many;
 }
 
 ok_draft : (x y : Draft) → (let r : Result Draft JobKind = Ok x in r) ≡ Ok y → x ≡ y
@@ -90,7 +100,7 @@ directive_is draft new n what is ranged none made =
       | false ↦ λ few made.
           subst IsDraft (ok_draft _ new made)
           (grown draft n what draft.recording is few ranged
-          (sym (append-nil (map happening_of draft.recording)) ∙ ap (λ o. map happening_of draft.recording ++ cons_option o []) (sym none)))
+          (sym (append-nil (map happening_of draft.recording)) ∙ ap (λ o. map happening_of draft.recording ++ cons_option o []) (sym none)) is.steps is.many)
     ] refl made
 
 few_events : (lines : List Placed) (event : Event) → is_many lines (event_directive event) ≡ false
@@ -106,16 +116,32 @@ ranged_beside : (event : Event) → hart_of event < job_harts → IsRanged (even
 ranged_beside (event.Turn hart count) below = below
 ranged_beside (event.Lines hart mask) below = below
 
-event_is : (draft new : Draft) (n : ℕ) (event : Event) (refusal : Option PushEnd) → IsDraft draft → hart_of event < job_harts → event_with draft n event refusal ≡ Ok new → IsDraft new
-event_is draft new n event (Some end) is below made = cc
-event_is draft new n event None is below made =
+-- an event that isn't refused keeps the limits of the schedule
+no_refusal : (hart mask steps many : Bool) → (let o : Option PushEnd = cond hart (Some pushed.Hart) (cond (not mask) (Some pushed.Mask) (cond steps (Some pushed.Steps) (cond many (Some pushed.Many) None))) in o) ≡ None → (steps ≡ false) × (many ≡ false)
+no_refusal true mask steps many is = cc
+no_refusal false false steps many is = cc
+no_refusal false true true many is = cc
+no_refusal false true false true is = cc
+no_refusal false true false false is = (refl, refl)
+
+one_event : (events : List Event) (event : Event) → refusal_of events event ≡ None → (total_of (events ++ event ∷ []) ≤ steps_limit) × (length (events ++ event ∷ []) ≤ events_limit)
+one_event events event is =
+    let r = no_refusal _ _ _ _ is in
+    let steps : total_of events + steps_of event ≤ steps_limit = ltb-false steps_limit (total_of events + steps_of event) r.0 in
+    let many : length events < events_limit = leb-false events_limit (length events) r.1 in
+    (omega (arith, steps, sum_by-append steps_of events (event ∷ [])), omega (arith, many, length-append events (event ∷ [])))
+
+event_is : (draft new : Draft) (n : ℕ) (event : Event) (refusal : Option PushEnd) → refusal_of draft.recording event ≡ refusal → IsDraft draft → hart_of event < job_harts → event_with draft n event refusal ≡ Ok new → IsDraft new
+event_is draft new n event (Some end) told is below made = cc
+event_is draft new n event None told is below made =
+    let fits = one_event draft.recording event told in
     subst IsDraft (ok_draft _ new made)
     (grown draft n (event_directive event) (draft.recording ++ event ∷ []) is (few_events draft.lines event) (ranged_beside event below)
-    (map-append happening_of draft.recording (event ∷ []) ∙ ap (λ o. map happening_of draft.recording ++ cons_option o []) (sym (beside event))))
+    (map-append happening_of draft.recording (event ∷ []) ∙ ap (λ o. map happening_of draft.recording ++ cons_option o []) (sym (beside event))) fits.0 fits.1)
 
 schedule_is : (draft new : Draft) (n : ℕ) (event : Event) → IsDraft draft → hart_of event < job_harts → schedule_with draft n event ≡ Ok new → IsDraft new
 unfolding schedule_with
-schedule_is draft new n event is below made = event_is draft new n event _ is below made
+schedule_is draft new n event is below made = event_is draft new n event _ refl is below made
 
 harts_is : (draft new : Draft) (harts : ℕ) (before : Option ℕ) → IsDraft draft → (1 ≤ harts) × (harts ≤ job_harts) → harts_with draft harts before ≡ Ok new → IsDraft new
 harts_is draft new harts (Some m) is ranged made = cc
@@ -129,6 +155,8 @@ harts_is draft new harts None is ranged made =
       watches = is.watches;
       dumps = is.dumps;
       images = is.images;
+      steps = is.steps;
+      many = is.many;
     })
 
 sample_is : (draft new : Draft) (n at : ℕ) (name text : List ℕ) (r : Result (List ℕ) (ℕ × AsmKind)) → IsDraft draft → at % 4 ≡ 0 → at < 2 ^ 32 → asm_of text at ≡ r → sample_with draft n name at r ≡ Ok new → IsDraft new
@@ -207,35 +235,45 @@ harts_in : (o : Option ℕ) → ((n : ℕ) → o ≡ Some n → (1 ≤ n) × (n 
 harts_in (Some n) ranged = ranged n refl
 harts_in None ranged = (omega arith, omega arith)
 
-job_in_is : (draft : Draft) (commands : List DebugLine) → IsDraft draft → AreCommands commands → IsJob (job_in draft commands)
+-- the job of a text, whose schedule keeps its limits
+pub record IsReadJob (job : Job) : Type 0 where
+  pub is : IsJob job
+  pub steps : total_of job.recording ≤ steps_limit
+  pub many : length job.recording ≤ events_limit
+
+job_in_is : (draft : Draft) (commands : List DebugLine) → IsDraft draft → AreCommands commands → IsReadJob (job_in draft commands)
 job_in_is draft commands is are = record {
-  pages = is.pages;
-  harts = harts_in draft.harts is.harts;
-  lines = is.lines;
-  events = is.events;
-  machines = is.machines;
-  watches = is.watches;
-  dumps = is.dumps;
-  images = is.images;
-  commands = are.ranged;
-  commanded = are.count;
-  breaks = are.breaks;
+  steps = is.steps;
+  many = is.many;
+  is = record {
+    pages = is.pages;
+    harts = harts_in draft.harts is.harts;
+    lines = is.lines;
+    events = is.events;
+    machines = is.machines;
+    watches = is.watches;
+    dumps = is.dumps;
+    images = is.images;
+    commands = are.ranged;
+    commanded = are.count;
+    breaks = are.breaks;
+  };
 }
 
 ok_job : (x y : Job) → (let r : Answered = Ok x in r) ≡ Ok y → x ≡ y
 ok_job x y is = cc
 
-found_or : (last : Bool) (end_at goes : Answered) (job : Job) → (end_at ≡ Ok job → IsJob job) → (goes ≡ Ok job → IsJob job) → cond last end_at goes ≡ Ok job → IsJob job
+found_or : (last : Bool) (end_at goes : Answered) (job : Job) → (end_at ≡ Ok job → IsReadJob job) → (goes ≡ Ok job → IsReadJob job) → cond last end_at goes ≡ Ok job → IsReadJob job
 found_or true end_at goes job f g made = f made
 found_or false end_at goes job f g made = g made
 
-ended_is : (draft : Draft) (r : Result (List DebugLine) (ℕ × JobKind)) (job : Job) → IsDraft draft → ((commands : List DebugLine) → r ≡ Ok commands → AreCommands commands) → job_with draft r ≡ Ok job → IsJob job
-ended_is draft (Ok commands) job is are made = subst IsJob (ok_job _ job made) (job_in_is draft commands is (are commands refl))
+ended_is : (draft : Draft) (r : Result (List DebugLine) (ℕ × JobKind)) (job : Job) → IsDraft draft → ((commands : List DebugLine) → r ≡ Ok commands → AreCommands commands) → job_with draft r ≡ Ok job → IsReadJob job
+ended_is draft (Ok commands) job is are made = subst IsReadJob (ok_job _ job made) (job_in_is draft commands is (are commands refl))
 ended_is draft (Err e) job is are made = cc
 
-body_is : (lines : List (List ℕ)) (draft : Draft) (inside : Bool) (n : ℕ) (job : Job) → IsDraft draft → body_from draft inside n lines ≡ Ok job → IsJob job
+body_is : (lines : List (List ℕ)) (draft : Draft) (inside : Bool) (n : ℕ) (job : Job) → IsDraft draft → body_from draft inside n lines ≡ Ok job → IsReadJob job
 unfolding body_from
-body_is [] draft inside n job is made = subst IsJob (ok_job _ job made) (job_in_is draft [] is no_commands)
+body_is [] draft inside n job is made = subst IsReadJob (ok_job _ job made) (job_in_is draft [] is no_commands)
 body_is (line ∷ lines) draft true n job is made = body_is lines draft (not (is_end line)) (n + 1) job is made
 body_is (line ∷ lines) draft false n job is made =
     found_or (is_debug line) (job_with draft (commands_from [] (n + 1) lines))
@@ -245,27 +283,27 @@ body_is (line ∷ lines) draft false n job is made =
     let s = next_ok (line_with draft n line lines) (λ next. body_from next (begins_image line) (n + 1) lines) job told in
     body_is lines s.0 (begins_image line) (n + 1) job (line_is draft s.0 n line lines is s.1) s.2) made
 
-behind_storage_is : (n : ℕ) (lines words : List (List ℕ)) (r : Result ℕ JobKind) (job : Job) → storage_line_of words ≡ r → behind_storage n lines r ≡ Ok job → IsJob job
+behind_storage_is : (n : ℕ) (lines words : List (List ℕ)) (r : Result ℕ JobKind) (job : Job) → storage_line_of words ≡ r → behind_storage n lines r ≡ Ok job → IsReadJob job
 behind_storage_is n lines words (Ok pages) job is made = body_is lines (draft_of pages) false (n + 1) job (draft_start pages (storage_ranged words pages is)) made
 behind_storage_is n lines words (Err kind) job is made = cc
 
-storage_choice : (allowed words : Bool) (n : ℕ) (skip stored : Answered) (job : Job) → (skip ≡ Ok job → IsJob job) → (stored ≡ Ok job → IsJob job) → cond (not allowed) (Err (n, fault.Byte)) (cond (not words) skip stored) ≡ Ok job → IsJob job
+storage_choice : (allowed words : Bool) (n : ℕ) (skip stored : Answered) (job : Job) → (skip ≡ Ok job → IsReadJob job) → (stored ≡ Ok job → IsReadJob job) → cond (not allowed) (Err (n, fault.Byte)) (cond (not words) skip stored) ≡ Ok job → IsReadJob job
 storage_choice false words n skip stored job f g made = cc
 storage_choice true false n skip stored job f g made = f made
 storage_choice true true n skip stored job f g made = g made
 
-storage_is : (lines : List (List ℕ)) (n : ℕ) (job : Job) → storage_from n lines ≡ Ok job → IsJob job
+storage_is : (lines : List (List ℕ)) (n : ℕ) (job : Job) → storage_from n lines ≡ Ok job → IsReadJob job
 unfolding storage_from
 storage_is [] n job made = cc
 storage_is (line ∷ lines) n job made =
     storage_choice (is_allowed line) (has_words line) n (storage_from (n + 1) lines) (behind_storage n lines (storage_line_of (words_of line))) job
     (storage_is lines (n + 1) job) (behind_storage_is n lines (words_of line) (storage_line_of (words_of line)) job refl) made
 
-found_is : (header : Bool) (n : ℕ) (stored : Answered) (job : Job) → (stored ≡ Ok job → IsJob job) → cond header stored (Err (n, fault.Header)) ≡ Ok job → IsJob job
+found_is : (header : Bool) (n : ℕ) (stored : Answered) (job : Job) → (stored ≡ Ok job → IsReadJob job) → cond header stored (Err (n, fault.Header)) ≡ Ok job → IsReadJob job
 found_is true n stored job f made = f made
 found_is false n stored job f made = cc
 
-header_is : (lines : List (List ℕ)) (n : ℕ) (job : Job) → header_from n lines ≡ Ok job → IsJob job
+header_is : (lines : List (List ℕ)) (n : ℕ) (job : Job) → header_from n lines ≡ Ok job → IsReadJob job
 unfolding header_from
 header_is [] n job made = cc
 header_is (line ∷ lines) n job made =
@@ -273,7 +311,10 @@ header_is (line ∷ lines) n job made =
     (cond (is_header (words_of line)) (storage_from (n + 1) lines) (Err (n, fault.Header))) job
     (header_is lines (n + 1) job) (found_is (is_header (words_of line)) n (storage_from (n + 1) lines) job (storage_is lines (n + 1) job)) made
 
-pub job_is : (text : List ℕ) (r : Result Job JobEnd) → GivesJob r (job_of text) → IfOk r IsJob
+pub text_is : (text : List ℕ) (job : Job) → job_of text ≡ Ok job → IsReadJob job
 unfolding job_of
-job_is text (Ok job) made = header_is (lines_of text) 1 job made
+text_is text job made = header_is (lines_of text) 1 job made
+
+pub job_is : (text : List ℕ) (r : Result Job JobEnd) → GivesJob r (job_of text) → IfOk r IsJob
+job_is text (Ok job) made = (text_is text job made).is
 job_is text (Err end) made = tt

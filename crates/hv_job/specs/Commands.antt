@@ -13,7 +13,8 @@ use Rattle.hv_job.specs.declared.job.DebugLine.{DebugLine}
 
 -- a limit that a command behind these passes
 unfoldable pub is_over : List DebugLine → DebugCommand → Bool
-is_over commands (command.Break name at) = nat_le job_commands (length commands) || nat_le job_breaks (breaks_in commands)
+is_over commands (command.Break name at) =
+    nat_le job_commands (length commands) || nat_le job_breaks (breaks_in commands)
 is_over commands _ = nat_le job_commands (length commands)
 
 -- the commands with one on the line of this number behind them
@@ -31,7 +32,9 @@ line_commands commands number line =
     else if not (has_words line) then Ok commands
     else command_of (words_of line) >>= new_commands commands number (words_of line)
 
-abbrev pub commands_then : ℕ → Result (List DebugLine) JobKind → (List DebugLine → Result (List DebugLine) (ℕ × JobKind)) → Result (List DebugLine) (ℕ × JobKind)
+abbrev pub commands_then :
+    ℕ → Result (List DebugLine) JobKind
+    → (List DebugLine → Result (List DebugLine) (ℕ × JobKind)) → Result (List DebugLine) (ℕ × JobKind)
 commands_then number (Ok commands) next = next commands
 commands_then number (Err kind) next = Err (number, kind)
 

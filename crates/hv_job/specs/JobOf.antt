@@ -101,7 +101,9 @@ at_line number (Ok value) = Ok value
 at_line number (Err kind) = Err (number, kind)
 
 -- the draft with an image that was assembled, whose end is this line
-abbrev pub image_with : Draft → (number last : ℕ) → List ℕ → List ℕ → ℕ → Result (List ℕ) (ℕ × AsmKind) → Result Draft (ℕ × JobKind)
+abbrev pub image_with :
+    Draft → (number last : ℕ) → List ℕ → List ℕ → ℕ
+    → Result (List ℕ) (ℕ × AsmKind) → Result Draft (ℕ × JobKind)
 image_with draft number last line name base (Err (inner, kind)) = Err (number + inner, asm_kind kind)
 image_with draft number last line name base (Ok words) =
     at_line last (

@@ -1,5 +1,5 @@
--- The commands of the debugger. Each has a definition of its own: the number of words behind the first, and then the tests of
--- these words, from the left.
+-- The commands of the debugger. Each has a definition of its own: the number of words behind the first, and then the
+-- tests of these words, from the left.
 use Rattle.std.specs.Prelude.{ℕ, if◌then◌else◌, List, [], ◌∷◌, ◌++◌, codes, Result, Ok, Err}
 use Rattle.std.specs.Str.{bytes_eq}
 use Rattle.hv_limits.specs.Limits.{steps_limit}

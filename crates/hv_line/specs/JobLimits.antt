@@ -1,5 +1,5 @@
--- What a text that begins with `job 1` can ask for. These are numbers of such texts, whatever machine they are read for: a
--- machine that can have more harts, or deeper machines, reads the same texts.
+-- What a text that begins with `job 1` can ask for. These are numbers of such texts, whatever machine they are read
+-- for: a machine that can have more harts, or deeper machines, reads the same texts.
 use Rattle.std.specs.Prelude.{ℕ}
 
 -- how many harts a line `harts` can ask for; the others name a hart below that

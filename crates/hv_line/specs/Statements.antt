@@ -1,5 +1,5 @@
--- What a line says. Each directive has a definition of its own: the number of words behind the first, and then the tests of
--- these words, from the left.
+-- What a line says. Each directive has a definition of its own: the number of words behind the first, and then the
+-- tests of these words, from the left.
 use Rattle.std.specs.Prelude.{ℕ, ◌+◌, ◌-◌, ◌*◌, ◌%◌, ◌^◌, ◌==◌, ◌&&◌, nat_le, if◌then◌else◌, List, [], ◌∷◌, length, Option, Some, None, Result, Ok, Err, codes}
 use Rattle.std.specs.Str.{bytes_eq}
 use Rattle.hv_irq.specs.Events.{is_line_mask}
@@ -136,19 +136,20 @@ hart_directive_of _ = Err fault.Words
 
 -- machine NAME in PARENT block B pages N table T at P
 unfoldable pub machine_directive_of : List (List ℕ) → Result Statement JobKind
-machine_directive_of (name ∷ word_in ∷ parent ∷ word_block ∷ b ∷ word_pages ∷ n ∷ word_table ∷ t ∷ word_at ∷ p ∷ []) = do
-  name ← named name
-  _ ← fixed (codes "in") word_in
-  parent ← named parent
-  _ ← fixed (codes "block") word_block
-  b ← later_page b
-  _ ← fixed (codes "pages") word_pages
-  n ← pages n
-  _ ← fixed (codes "table") word_table
-  t ← page t
-  _ ← fixed (codes "at") word_at
-  p ← page p
-  Ok (states.Directive (directive.Machine name parent b n t p))
+machine_directive_of
+    (name ∷ word_in ∷ parent ∷ word_block ∷ b ∷ word_pages ∷ n ∷ word_table ∷ t ∷ word_at ∷ p ∷ []) = do
+      name ← named name
+      _ ← fixed (codes "in") word_in
+      parent ← named parent
+      _ ← fixed (codes "block") word_block
+      b ← later_page b
+      _ ← fixed (codes "pages") word_pages
+      n ← pages n
+      _ ← fixed (codes "table") word_table
+      t ← page t
+      _ ← fixed (codes "at") word_at
+      p ← page p
+      Ok (states.Directive (directive.Machine name parent b n t p))
 machine_directive_of _ = Err fault.Words
 
 -- map NAME I none, map NAME I ro P, map NAME I rw P

@@ -1,5 +1,5 @@
 -- What the program prints of a watched machine beside the bare machine that runs alone.
-use Rattle.std.specs.Prelude.{◌≡◌, ◌<◌, ◌≤◌, true, false, List, ◌++◌, length, Some, None, codes}
+use Rattle.std.specs.Prelude.{◌≡◌, ℕ, ◌<◌, ◌≤◌, true, false, List, ◌++◌, length, Some, None, codes}
 use Rattle.hv_map.specs.Item.{Item}
 use Rattle.hv_map.specs.Chain.{pin_of}
 use Rattle.hv_map.specs.Apart.{is_one, is_apart}

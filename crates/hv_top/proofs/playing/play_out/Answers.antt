@@ -38,11 +38,6 @@ play-requires-clause-watches c =
     let h = c.requires.ready in
     can_watch c.args.start c.new-plain.result c.as_slice.result.now c.new-plain.ensures c.as_slice.ensures h.watches
 
-pub play-requires-clause-number : goal.play-requires-clause-number
-play-requires-clause-number c =
-    let h = c.requires.ready in
-    subst (λ (ws : List Watch). length ws ≤ 16) (sym c.as_slice.ensures) h.few
-
 pub play-requires-clause-harts : goal.play-requires-clause-harts
 play-requires-clause-harts c =
     let h = c.requires.ready in

@@ -5,8 +5,8 @@ use Rattle.hv_run.specs.Record.{WatchRecord}
 use Rattle.hv_top.proofs.Twins.{next_there}
 use Rattle.hv_top.proofs.check.twin.Goals as goal
 
-pub seen-requires-clause-pin_of : goal.seen-requires-clause-pin_of
-seen-requires-clause-pin_of c = pinned_own c.args.start.store c.watch.inside.path c.in-Some.chain (sym c.in-Some.ensures)
+pub seen-requires-clause-pinned : goal.seen-requires-clause-pinned
+seen-requires-clause-pinned c = pinned_own c.args.start.store c.watch.inside.path c.in-Some.chain (sym c.in-Some.ensures)
 
 pub returns-clause-next : goal.returns-clause-next
 returns-clause-next c =

@@ -16,7 +16,7 @@ use Rattle.hv_load.specs.declared.parts.Mark.TheVariants as mark
 use Rattle.hv_load.specs.declared.start.Start.{Start}
 use Rattle.hv_load.specs.Answers.{Leaves, Refuses}
 use Rattle.hv_load.specs.Building.{◌>>=◌, Building, Known, known}
-use Rattle.hv_load.specs.Build.{GivesStart, and_then, at_line, build_of, built_from, command_fault, command_of, done_of, ended, fault_or, part_of, parts_of}
+use Rattle.hv_load.specs.Build.{GivesStart, and_then, at_line, build_of, built_from, command_fault, command_of, done_of, end_of, fault_or, part_of, parts_of}
 use Rattle.hv_load.specs.Directives.{image_in, image_of, words_in, words_of}
 use Rattle.hv_load.specs.Finding.{found_by}
 use Rattle.hv_load.specs.Pages.{each_from, free_page_of, marked, page_at, page_of, place_by, with_values}
@@ -83,13 +83,13 @@ pub built_stop : (b : Building) (lines : List Placed) (i : ℕ) (p : Placed) (wh
 built_stop b lines i p why all after h is done told =
     ap (λ (r : Result Building (ℕ × BuildKind)). and_then r after) (sym told ∙ built_at b lines i p (Err why) h is done)
 
-pub built_end : (b : Building) (lines : List Placed) (i : ℕ) (result : Result Start BuildEnd) (all : Result Building (ℕ × BuildKind)) (read commands : List DebugLine) → length lines ≤ i → read ≡ commands → GivesStart result (ended read b) → built_from b (drop i lines) ≡ all → GivesStart result (and_then all (ended commands))
+pub built_end : (b : Building) (lines : List Placed) (i : ℕ) (result : Result Start BuildEnd) (all : Result Building (ℕ × BuildKind)) (read commands : List DebugLine) → length lines ≤ i → read ≡ commands → GivesStart result (end_of read b) → built_from b (drop i lines) ≡ all → GivesStart result (and_then all (end_of commands))
 unfolding built_from
 built_end b lines i result all read commands h same gives told =
     subst
-    (λ (r : Result Building (ℕ × BuildKind)). GivesStart result (and_then r (ended commands)))
+    (λ (r : Result Building (ℕ × BuildKind)). GivesStart result (and_then r (end_of commands)))
     (sym (ap (built_from b) (drop_all i lines h)) ∙ told)
-    (subst (λ (l : List DebugLine). GivesStart result (ended l b)) same gives)
+    (subst (λ (l : List DebugLine). GivesStart result (end_of l b)) same gives)
 
 -- one command more
 command_at : (b : Building) (lines : List DebugLine) (i : ℕ) (l : DebugLine) (r : Result Building BuildKind) → i < length lines → l ≡ get_or lines i l → command_of b l.what ≡ r → command_fault b (drop i lines) ≡ fault_or l.line r (command_fault b (drop (i + 1) lines))

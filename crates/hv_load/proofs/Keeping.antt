@@ -28,7 +28,7 @@ use Rattle.hv_load.specs.declared.ends.BuildKind.TheVariants as kind
 use Rattle.hv_load.specs.declared.parts.PlacedWatch.{PlacedWatch}
 use Rattle.hv_load.specs.declared.parts.Mark.TheVariants as mark
 use Rattle.hv_load.specs.Building.{◌>>=◌, Building, Known, inside_another, known, known_inside, named, nothing_built}
-use Rattle.hv_load.specs.Build.{GivesStart, and_then, at_line, build_of, built_from, can_watch, command_fault, done_of, ended, finished, part_of, parts_of, start_of, topped, towered_of, unless_fault, unless_refused, watch_asked, watch_fault, with_top}
+use Rattle.hv_load.specs.Build.{GivesStart, and_then, at_line, build_of, built_from, can_watch, command_fault, done_of, end_of, finish_of, part_of, parts_of, start_of, top_of, towered_of, unless_fault, unless_refused, watch_asked, watch_fault, with_top}
 use Rattle.hv_load.specs.Directives.{dump_in, dump_of, event_of, hart_of, image_in, image_of, is_outside, is_shared, machine_of, machines_limit, made_in, mapped_in, mapped_of, pages_along, started_in, started_of, watch_in, watch_of, with_made, words_in, words_of}
 use Rattle.hv_load.specs.Making.{block_word, can_take, table_word, with_machine, with_page, with_tables}
 use Rattle.hv_load.specs.Pages.{block_page, each_from, free_page_of, marked, outer, page_at, page_of, place_by, reads_in, table_word_of, with_values}
@@ -241,11 +241,11 @@ parts_keep b n (p ∷ parts) is =
 
 tower_keeps : (b n : Building) (line depth pages : ℕ) (which : Sample) → towered_of b line depth pages which ≡ Ok n → Keeps b n 0 0
 tower_keeps b n line depth pages which is =
-    let first = passed (b.towered || is_some (named (codes "top") b.names)) (parts_of b (tower_of depth pages which line) >>= λ next. topped next depth) kind.Repeat n is in
-    let made_parts = bound (parts_of b (tower_of depth pages which line)) (λ next. topped next depth) n first.1 in
+    let first = passed (b.towered || is_some (named (codes "top") b.names)) (parts_of b (tower_of depth pages which line) >>= λ next. top_of next depth) kind.Repeat n is in
+    let made_parts = bound (parts_of b (tower_of depth pages which line)) (λ next. top_of next depth) n first.1 in
     both b made_parts.0 n 0 0 0 0 (parts_keep b made_parts.0 (tower_of depth pages which line) made_parts.1) (top made_parts.0 made_parts.2)
   where
-    top : (m : Building) → topped m depth ≡ Ok n → Keeps m n 0 0
+    top : (m : Building) → top_of m depth ≡ Ok n → Keeps m n 0 0
     top m is =
         let found = bound (known (level_name depth) m.names) (λ k. Ok (with_top m k)) n is in
         made m (with_top m found.0) n 0 0 _ (same m (with_top m found.0) refl refl refl refl) refl found.2
@@ -319,14 +319,14 @@ unfaulted : (b : Building) (o : Option ℕ) (start : Start) → unless_fault b o
 unfaulted b None start is = (refl, given (start_of b) start (unless_fault b None) refl is)
 unfaulted b (Some line) start is = absurd (failed (line, kind.Watch) start (unless_fault b (Some line)) refl is)
 
-unrefused : (b : Building) (o : Option (ℕ × BuildKind)) (start : Start) → unless_refused b o ≡ Ok start → finished b ≡ Ok start
+unrefused : (b : Building) (o : Option (ℕ × BuildKind)) (start : Start) → unless_refused b o ≡ Ok start → finish_of b ≡ Ok start
 unrefused b None start is = is
 unrefused b (Some end) start is = absurd (failed end start (unless_refused b (Some end)) refl is)
 
 pub ready : (job : Job) (start : Start) → IsJob job → build_of job ≡ Ok start → IsReady job start
 unfolding build_of zeros
 ready job start is_job is =
-    let lines = and_then_bound (built_from (nothing_built job.pages job.harts) job.lines) (ended job.commands) start is in
+    let lines = and_then_bound (built_from (nothing_built job.pages job.harts) job.lines) (end_of job.commands) start is in
     let b : Building = lines.0 in
     let keeps : Keeps (nothing_built job.pages job.harts) b (count_of is_watch job.lines) (count_of is_dump job.lines) = lines_keep (nothing_built job.pages job.harts) b job.lines lines.1 in
     let end = unfaulted b (watch_fault b.storage b.watches) start (unrefused b (command_fault b job.commands) start lines.2) in

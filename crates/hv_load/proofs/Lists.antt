@@ -1,30 +1,16 @@
 -- Going down a list: what is left of it, and the next of it.
 use Rattle.std.proofs.Common.{◌≡◌, ℕ, suc, ◌+◌, ◌<◌, ◌≤◌, Bool, true, false, cond, List, [], ◌∷◌, length, map, drop, get_or, set, Option, Some, None, Result, Ok, Err, refl, sym, ap, ◌∙◌, add-one, drop-cons}
-use Rattle.std.specs.Str.{bytes_eq}
 use Rattle.std.proofs.lemmas.List.{drop_all, get_or_default}
 use Rattle.hv_map.specs.Chain.{map_of}
 use Rattle.hv_load.specs.declared.ends.BuildKind.{BuildKind}
 use Rattle.hv_load.specs.declared.parts.PlacedWatch.{PlacedWatch}
 use Rattle.hv_load.specs.declared.parts.Mark.{Mark}
-use Rattle.hv_load.specs.Building.{Known, named}
 use Rattle.hv_load.specs.Build.{can_watch, watch_fault}
 use Rattle.hv_load.specs.Pages.{marked, page_at, with_values}
 
 -- what is left from i on is its first element and what is left behind it
 pub left_at : {A : Type 0} (xs : List A) (i : ℕ) (x : A) → i < length xs → x ≡ get_or xs i x → drop i xs ≡ x ∷ drop (i + 1) xs
 left_at xs i x h is = rw (add-one) (drop-cons xs i x h ∙ ap (λ y. y ∷ drop (suc i) xs) (sym is))
-
-named_here : (name : List ℕ) (k : Known) (ks : List Known) (b : Bool) → bytes_eq k.name name ≡ b → named name (k ∷ ks) ≡ cond b (Some k) (named name ks)
-named_here name k ks b is = ap (λ (c : Bool). cond c (Some k) (named name ks)) is
-
-pub named_more : (name : List ℕ) (ks : List Known) (i : ℕ) (k : Known) → i < length ks → k ≡ get_or ks i k → bytes_eq k.name name ≡ false → named name (drop i ks) ≡ named name (drop (i + 1) ks)
-named_more name ks i k h is other = ap (named name) (left_at ks i k h is) ∙ named_here name k (drop (i + 1) ks) false other
-
-pub named_found : (name : List ℕ) (ks : List Known) (i : ℕ) (k : Known) → i < length ks → k ≡ get_or ks i k → bytes_eq k.name name ≡ true → named name (drop i ks) ≡ Some k
-named_found name ks i k h is there = ap (named name) (left_at ks i k h is) ∙ named_here name k (drop (i + 1) ks) true there
-
-pub named_end : (name : List ℕ) (ks : List Known) (i : ℕ) → length ks ≤ i → named name (drop i ks) ≡ None
-named_end name ks i h = ap (named name) (drop_all i ks h)
 
 watch_here : (S : List ℕ) (a : PlacedWatch) (rest : List PlacedWatch) (b : Bool) → can_watch (map_of S a.watch.path) ≡ b → watch_fault S (a ∷ rest) ≡ cond b (watch_fault S rest) (Some a.line)
 watch_here S a rest b is = ap (λ (c : Bool). cond c (watch_fault S rest) (Some a.line)) is
@@ -53,4 +39,4 @@ marked_more mark places marks i h =
 pub marked_end : (mark : Mark) (places : List ℕ) (marks : List Mark) (i : ℕ) → length places ≤ i → marked mark (map page_at (drop i places)) marks ≡ marks
 marked_end mark places marks i h = ap (λ (ps : List ℕ). marked mark (map page_at ps) marks) (drop_all i places h)
 
-pub ruleset lists = (named_more, named_found, named_end, watch_more, watch_found, watch_end, values_more, values_end, marked_more, marked_end)
+pub ruleset lists = (watch_more, watch_found, watch_end, values_more, values_end, marked_more, marked_end)

@@ -30,6 +30,7 @@ part_of b (directive.Machine name parent block pages table at) = machine_of b na
 part_of b (directive.Sample name image) = image_of b name image
 part_of b _ = Ok b
 
+-- the parts of a tower in order, or the first refusal
 abbrev pub parts_of : Building → List Placed → Result Building BuildKind
 parts_of b [] = Ok b
 parts_of b (placed ∷ parts) = part_of b placed.what >>= λ next. parts_of next parts
@@ -38,14 +39,14 @@ parts_of b (placed ∷ parts) = part_of b placed.what >>= λ next. parts_of next
 abbrev pub with_top : Building → Known → Building
 with_top b k = record b { names = b.names ++ record k { name = codes "top" } ∷ []; towered = true }
 
-abbrev pub topped : Building → (depth : ℕ) → Result Building BuildKind
-topped b depth = known (level_name depth) b.names >>= λ k. Ok (with_top b k)
+abbrev pub top_of : Building → (depth : ℕ) → Result Building BuildKind
+top_of b depth = known (level_name depth) b.names >>= λ k. Ok (with_top b k)
 
 -- `tower`
 abbrev pub towered_of : Building → (line depth pages : ℕ) → Sample → Result Building BuildKind
 towered_of b line depth pages which =
     if b.towered || is_some (named (codes "top") b.names) then Err kind.Repeat
-    else parts_of b (tower_of depth pages which line) >>= λ next. topped next depth
+    else parts_of b (tower_of depth pages which line) >>= λ next. top_of next depth
 
 -- one directive
 abbrev pub done_of : Building → (line : ℕ) → Directive → Result Building BuildKind
@@ -67,14 +68,17 @@ abbrev pub at_line : {A : Type 0} → ℕ → Result A BuildKind → Result A (�
 at_line line (Ok x) = Ok x
 at_line line (Err why) = Err (line, why)
 
-abbrev pub and_then : {A B : Type 0} → Result A (ℕ × BuildKind) → (A → Result B (ℕ × BuildKind)) → Result B (ℕ × BuildKind)
+-- a step that may be refused at a line, and one that goes on from what it gives
+abbrev pub and_then : {A B : Type 0}
+    → Result A (ℕ × BuildKind) → (A → Result B (ℕ × BuildKind)) → Result B (ℕ × BuildKind)
 and_then (Ok x) f = f x
 and_then (Err end) f = Err end
 
 -- all directives in order, or the first that is refused
 unfoldable pub built_from : Building → List Placed → Result Building (ℕ × BuildKind)
 built_from b [] = Ok b
-built_from b (placed ∷ lines) = and_then (at_line placed.line (done_of b placed.line placed.what)) (λ next. built_from next lines)
+built_from b (placed ∷ lines) =
+    and_then (at_line placed.line (done_of b placed.line placed.what)) (λ next. built_from next lines)
 
 -- a command of the debugger names a machine or a hart that is there
 abbrev pub command_of : Building → DebugCommand → Result Building BuildKind
@@ -106,36 +110,41 @@ watch_fault S [] = None
 watch_fault S (asked ∷ rest) =
     if can_watch (map_of S asked.watch.path) then watch_fault S rest else Some asked.line
 
+-- a machine without its pages
 abbrev pub named_of : Known → Named
 named_of k = record { name = k.name; path = k.path }
 
+-- a watch without its line
 abbrev pub watch_asked : PlacedWatch → Watch
 watch_asked asked = asked.watch
 
+-- the names, the watches and the dumps that a job has come to
 abbrev pub plan_of : Building → Plan
 plan_of b = record { names = map named_of b.names; watches = map watch_asked b.watches; dumps = b.dumps }
 
+-- the start of a job in which all is built
 abbrev pub start_of : Building → Start
 start_of b = record { store = b.storage; harts = b.harts; plan = plan_of b }
 
+-- the same, if each watch can be
 abbrev pub unless_fault : Building → Option ℕ → Result Start (ℕ × BuildKind)
 unless_fault b None = Ok (start_of b)
 unless_fault b (Some line) = Err (line, kind.Watch)
 
-abbrev pub finished : Building → Result Start (ℕ × BuildKind)
-finished b = unless_fault b (watch_fault b.storage b.watches)
+abbrev pub finish_of : Building → Result Start (ℕ × BuildKind)
+finish_of b = unless_fault b (watch_fault b.storage b.watches)
 
 abbrev pub unless_refused : Building → Option (ℕ × BuildKind) → Result Start (ℕ × BuildKind)
-unless_refused b None = finished b
+unless_refused b None = finish_of b
 unless_refused b (Some end) = Err end
 
 -- after all directives come the commands, and last the watches
-abbrev pub ended : List DebugLine → Building → Result Start (ℕ × BuildKind)
-ended commands b = unless_refused b (command_fault b commands)
+abbrev pub end_of : List DebugLine → Building → Result Start (ℕ × BuildKind)
+end_of commands b = unless_refused b (command_fault b commands)
 
 -- the start of a job, or the line that is refused and why
 unfoldable pub build_of : Job → Result Start (ℕ × BuildKind)
-build_of job = and_then (built_from (nothing_built job.pages job.harts) job.lines) (ended job.commands)
+build_of job = and_then (built_from (nothing_built job.pages job.harts) job.lines) (end_of job.commands)
 
 -- what `build` answers; memory may be wanting whatever the job is
 abbrev pub GivesStart : Result Start BuildEnd → Result Start (ℕ × BuildKind) → Type 0

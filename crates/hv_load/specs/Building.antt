@@ -1,5 +1,6 @@
 -- What a job has come to while it is built, line by line.
-use Rattle.std.specs.Prelude.{◌≡◌, ℕ, ◌+◌, ◌*◌, Bool, true, false, if◌then◌else◌, List, [], ◌∷◌, length, replicate, Option, Some, None, Result, Ok, Err, codes}
+use Rattle.std.specs.Prelude.{◌≡◌, ℕ, ◌+◌, ◌*◌, Bool, true, false, List, [], ◌∷◌, length, replicate, Option, Some, None, Result, Ok, Err, codes}
+use Rattle.std.specs.List.{find}
 use Rattle.std.specs.Str.{bytes_eq}
 use Rattle.hv_cpu.specs.Regs.{Regs, reset_regs}
 use Rattle.hv_store.specs.Zeros.{zeros}
@@ -16,9 +17,9 @@ pub record Known : Type 0 where
   pub path : List ℕ
   pub pages : ℕ
 
--- The storage as it is; what each bare page was given to; the names in the order in which they were made, of which a tower's
--- `top` is a second one of its machine; how many machines were made, without the bare one; whether a tower was made; the
--- harts; what is to be watched, with the line that asks for it; and what is to be shown.
+-- The storage as it is; what each bare page was given to; the names in the order in which they were made, of which a
+-- tower's `top` is a second one of its machine; how many machines were made, without the bare one; whether a tower was
+-- made; the harts; what is to be watched, with the line that asks for it; and what is to be shown.
 pub record Building : Type 0 where
   pub storage : List ℕ
   pub marks : List Mark
@@ -37,8 +38,7 @@ abbrev pub ◌>>=◌ : {A B : Type 0} → Result A BuildKind → (A → Result B
 
 -- the first machine of this name
 abbrev pub named : List ℕ → List Known → Option Known
-named name [] = None
-named name (k ∷ ks) = if bytes_eq k.name name then Some k else named name ks
+named name ks = find (λ (k : Known). bytes_eq k.name name) ks
 
 abbrev pub known_as : Option Known → Result Known BuildKind
 known_as None = Err kind.Unknown

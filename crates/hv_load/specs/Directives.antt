@@ -20,7 +20,8 @@ machines_limit = 256
 -- `hart`
 abbrev pub hart_of : Building → (hart pc : ℕ) → Result Building BuildKind
 hart_of b hart pc =
-    if nat_lt hart (length b.harts) then Ok (record b { harts = slice_set b.harts hart (record reset_regs { pc = pc }) })
+    if nat_lt hart (length b.harts)
+    then Ok (record b { harts = slice_set b.harts hart (record reset_regs { pc = pc }) })
     else Err kind.Hart
 
 -- `turn` and `lines`, whose events stand in the schedule
@@ -112,7 +113,11 @@ is_shared (s ∷ path) harts = false
 abbrev pub watch_in : Building → (line hart : ℕ) → Known → Result Building BuildKind
 watch_in b line hart k =
     if is_shared k.path (length b.harts) then Err kind.Watch
-    else Ok (record b { watches = b.watches ++ record { line = line; watch = record { hart = hart; path = k.path } } ∷ [] })
+    else
+    Ok
+    (record b {
+      watches = b.watches ++ record { line = line; watch = record { hart = hart; path = k.path } } ∷ [];
+    })
 
 abbrev pub watch_of : Building → (line hart : ℕ) → List ℕ → Result Building BuildKind
 watch_of b line hart name =

@@ -15,7 +15,8 @@ page_along S chain limit page =
     if nat_lt page limit then reads_in (option_map (map_along S) chain) page else Err kind.Outside
 
 -- the same, if need be where it is free
-abbrev pub found_by : List ℕ → List Mark → Option (List Item) → (limit : ℕ) → (free : Bool) → (page : ℕ) → Result ℕ BuildKind
+abbrev pub found_by :
+    List ℕ → List Mark → Option (List Item) → (limit : ℕ) → (free : Bool) → (page : ℕ) → Result ℕ BuildKind
 found_by S marks chain limit free page =
     if free then page_along S chain limit page >>= if_free marks else page_along S chain limit page
 

@@ -1,3 +1,4 @@
+pub mod Kinds
 pub mod Building
 pub mod Answers
 pub mod Pages

@@ -10,8 +10,8 @@ use Rattle.hv_load.specs.Pages.{free_at}
 abbrev pub block_word : (pages table w : ℕ) → ℕ
 block_word pages table w = if w == 32 then 3 else if w == 65 then pages else if w == 66 then table else 0
 
--- word w of page k of the table of a machine with so many pages, whose first one is page `at` of its parent: the page can be
--- read and written; zero behind the last page
+-- word w of page k of the table of a machine with so many pages, whose first one is page `at` of its parent: the page
+-- can be read and written; zero behind the last page
 abbrev pub entry_word : (pages at i : ℕ) → ℕ
 entry_word pages at i = if nat_lt i pages then (at + i) * 4096 + 3 else 0
 

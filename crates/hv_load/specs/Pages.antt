@@ -25,8 +25,8 @@ abbrev pub written_at : Option Slot → Result ℕ BuildKind
 written_at None = Err kind.Absent
 written_at (Some slot) = opened slot.write
 
--- The bare page in which a machine with the map F reads its page, and in which it writes it. A machine without a map has
--- none.
+-- The bare page in which a machine with the map F reads its page, and in which it writes it. A machine without a map
+-- has none.
 abbrev pub reads_in : Option (List Slot) → ℕ → Result ℕ BuildKind
 reads_in None page = Err kind.Absent
 reads_in (Some F) page = read_at (slice_get F page)

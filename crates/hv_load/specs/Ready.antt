@@ -1,6 +1,7 @@
 -- What always holds of the start of a job.
 use Rattle.std.specs.Prelude.{◌≡◌, ℕ, ◌*◌, ◌<◌, ◌≤◌, List, [], ◌∷◌, length, All, Option, Some, None}
 use Rattle.hv_limits.specs.Limits.{pages_limit}
+use Rattle.hv_line.specs.JobLimits.{job_dumps, job_watches}
 use Rattle.hv_job.specs.declared.job.Job.{Job}
 use Rattle.hv_map.specs.Item.{Item}
 use Rattle.hv_map.specs.Chain.{map_along, pin_of}
@@ -22,12 +23,12 @@ abbrev pub EachWatched : List ℕ → ℕ → List Watch → Type 0
 EachWatched S harts [] = Unit {0}
 EachWatched S harts (w ∷ ws) = IsWatched S harts w × EachWatched S harts ws
 
--- The storage and the harts are those that the job asks for, no hart runs a machine yet, each watch can be played, and the
--- limits are kept.
+-- The storage and the harts are those that the job asks for, no hart runs a machine yet, each watch can be played, and
+-- the limits are kept.
 pub record IsReady (job : Job) (start : Start) : Type 0 where
   pub words : length start.store ≡ 1024 * job.pages
   pub harts : length start.harts ≡ job.harts
   pub idle : All (λ r. r.next ≡ 0) start.harts
   pub watches : EachWatched start.store (length start.harts) start.plan.watches
-  pub few : length start.plan.watches ≤ 16
-  pub dumps : length start.plan.dumps ≤ 1024
+  pub few : length start.plan.watches ≤ job_watches
+  pub dumps : length start.plan.dumps ≤ job_dumps

@@ -1,5 +1,6 @@
 -- Machines inside one another, each with a sample that runs the next.
-use Rattle.std.specs.Prelude.{ℕ, zero, suc, ◌+◌, List, [], ◌∷◌, Result, Ok, Err, codes}
+use Rattle.std.specs.Prelude.{ℕ, zero, suc, ◌+◌, List, [], ◌∷◌, ◌++◌, Result, Ok, Err, codes}
+use Rattle.std.specs.Fmt.{decimal}
 use Rattle.hv_asm.specs.Assembly.{asm_of}
 use Rattle.hv_asm.specs.declared.AsmKind.{AsmKind}
 use Rattle.hv_line.specs.declared.types.Directive.TheVariants as directive
@@ -8,8 +9,8 @@ use Rattle.hv_map.specs.Apart.{table_pages}
 use Rattle.hv_samples.specs.declared.choice.Sample.{Sample}
 use Rattle.hv_samples.specs.Samples.{sample_text}
 
--- how many pages a machine has around one of n pages: its first page, the child's block, the child's table, and the child's
--- pages
+-- how many pages a machine has around one of n pages: its first page, the child's block, the child's table, and the
+-- child's pages
 abbrev pub around : ℕ → ℕ
 around n = n + 2 + table_pages n
 
@@ -18,10 +19,10 @@ abbrev pub grown : ℕ → ℕ → ℕ
 grown zero n = n
 grown (suc levels) n = around (grown levels n)
 
--- the machine at a level: the bare one, t1, t2 and so on
+-- the machine at a level: the bare one, t1, t2 and so on, the level in decimal digits
 abbrev pub level_name : ℕ → List ℕ
 level_name zero = codes "root"
-level_name (suc k) = 116 ∷ (49 + k) ∷ []
+level_name (suc k) = codes "t" ++ decimal (suc k)
 
 abbrev pub words_if : Result (List ℕ) (ℕ × AsmKind) → List ℕ
 words_if (Ok words) = words

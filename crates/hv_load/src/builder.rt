@@ -1,11 +1,12 @@
-//! A job while it is built: the directives in the order of their lines, the commands of the debugger, and last the watches.
+//! A job while it is built: the directives in the order of their lines, the commands of the debugger, and last the
+//! watches.
 
 ghost use Rattle.std.specs.Prelude.{◌≡◌, ◌%◌, ◌<◌, ◌≤◌, ◌^◌, ◌⊎◌, IfOk, OnOk, length, ℕ, All, map};
 ghost use Rattle.hv_limits.specs.Limits.{depth_limit, harts_limit, pages_limit};
 ghost use Rattle.hv_load.specs.Answers.{Leaves, Passes};
 ghost use Rattle.hv_load.specs.Building.{nothing_built};
-ghost use Rattle.hv_load.specs.Build.{topped, with_top, GivesStart, can_watch as can_watch_of, command_fault as command_fault_of, command_of, done_of, ended, finished, named_of, part_of, parts_of, plan_of, towered_of, watch_asked, watch_fault as watch_fault_of};
-ghost use Rattle.hv_load.specs.Directives.{dump_of, event_of, hart_of, image_in, image_of as image_done, machine_of, made_in, mapped_of, started_of, watch_of, words_of};
+ghost use Rattle.hv_load.specs.Build.{top_of, with_top, GivesStart, can_watch as can_watch_of, command_fault as command_fault_of, command_of, done_of, end_of, finish_of, named_of, part_of, parts_of, plan_of, towered_of, watch_asked, watch_fault as watch_fault_of};
+ghost use Rattle.hv_load.specs.Directives.{dump_of, event_of, hart_of, image_in, image_of as image_done, machine_of, machines_limit, made_in, mapped_of, started_of, watch_of, words_of};
 ghost use Rattle.hv_line.specs.Ranges.{IsRanged, IsSize};
 ghost use Rattle.hv_map.specs.Chain.{map_of};
 ghost use Rattle.hv_samples.specs.declared.choice.Sample.TheVariants.{Pass, Forward};
@@ -250,7 +251,7 @@ impl Builder {
         parent: &Entry,
         layout: Layout,
     ) -> Result<(), DirectiveEnd>
-        requires { self.old.machines < 256 }
+        requires { self.old.machines < machines_limit }
         ensures { Leaves result self.new
             (made_in self.old name.now parent.now layout.block layout.pages layout.table layout.at) }
     {
@@ -385,7 +386,7 @@ impl Builder {
     /// The machine at the top of a tower gets the name `top` too.
     pub(crate) fn top(&mut self, depth: u32) -> Result<(), DirectiveEnd>
         requires { depth ≤ depth_limit }
-        ensures { Leaves result self.new (topped self.old depth) }
+        ensures { Leaves result self.new (top_of self.old depth) }
     {
         let machine = known(level_name(depth).as_slice(), self.names.as_slice())?;
         self.names.push(Entry {
@@ -397,10 +398,10 @@ impl Builder {
         Ok(())
     }
 
-    /// The start, if each command of the debugger names a machine or a hart that is there, and everything can be watched that
-    /// is asked for.
+    /// The start, if each command of the debugger names a machine or a hart that is there, and everything can be watched
+    /// that is asked for.
     pub(crate) fn end(self, alloc: Global, commands: &[DebugLine]) -> Result<Start, BuildEnd>
-        ensures { GivesStart result (ended commands.now self) }
+        ensures { GivesStart result (end_of commands.now self) }
     {
         if let Some((line, kind)) = self.command_fault(commands) {
             return Err(BuildEnd::BuildFault { line, kind });
@@ -445,7 +446,7 @@ impl Builder {
 
     // The start, if everything can be watched that is asked for.
     fn finish(self, alloc: Global) -> Result<Start, BuildEnd>
-        ensures { GivesStart result (finished self) }
+        ensures { GivesStart result (finish_of self) }
     {
         if let Some(line) = watch_fault(&self.store, self.watches.as_slice()) {
             return Err(BuildEnd::BuildFault {

@@ -1,5 +1,8 @@
 //! Why a job can't be built.
 
+ghost use Rattle.std.specs.Prelude.{◌≡◌};
+ghost use Rattle.hv_load.specs.Kinds.{kind_word};
+
 use std::alloc::AllocError;
 use std::fmt::{self, Display, Formatter};
 use thiserror::Error;
@@ -27,11 +30,37 @@ pub enum BuildKind {
     Watch,
 }
 
+impl BuildKind {
+    /// The word of the kind, as it is printed.
+    #[tactic(auto, unfolding(crate::specs::Kinds::kind_word))]
+    pub fn word(self) -> &'static str
+        ensures { result.now ≡ kind_word self }
+    {
+        match self {
+            BuildKind::Hart => "hart",
+            BuildKind::Many => "many",
+            BuildKind::Unknown => "unknown",
+            BuildKind::Depth => "depth",
+            BuildKind::Repeat => "repeat",
+            BuildKind::Outside => "outside",
+            BuildKind::Absent => "absent",
+            BuildKind::Overlap => "overlap",
+            BuildKind::Watch => "watch",
+        }
+    }
+}
+
+impl Display for BuildKind {
+    fn fmt<W: fmt::Write>(&self, f: &mut Formatter<W>) -> fmt::Result {
+        f.write_str(self.word())
+    }
+}
+
 /// Why a job can't be built.
 #[derive(Clone, Copy, Debug, PartialEq, Eq, Error)]
 pub enum BuildEnd {
     /// The directive on the line of this number is refused.
-    #[error("line {line} is refused")]
+    #[error("line {line} is refused: {kind}")]
     BuildFault { line: u32, kind: BuildKind },
     /// Memory is wanting.
     #[error("memory is wanting")]

@@ -14,8 +14,8 @@ use hv_map::Chain;
 use hv_store::Store;
 use std::alloc::Global;
 
-/// Where the words of one machine are looked for: in the storage and the marks as they are, along the machine's chain, if it
-/// has one, on its first `limit` pages, and if need be in free bare pages alone.
+/// Where the words of one machine are looked for: in the storage and the marks as they are, along the machine's chain,
+/// if it has one, on its first `limit` pages, and if need be in free bare pages alone.
 #[derive(Drop)]
 pub(crate) struct Finding<'a> {
     pub(crate) store: &'a Store,

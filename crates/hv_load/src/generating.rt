@@ -44,8 +44,8 @@ const KERNEL_LINE: u32 = 4;
 
 const FIRST_TURN_LINE: u32 = 518;
 
-/// The job of a number: a kernel of 512 words at the top of a tower of `number` mod 9 machines, which hart 0 runs for
-/// 200,000 steps, and a watch on it.
+/// The job of a number: a kernel of 512 words at the top of a tower of `number` mod `DEPTHS` machines, which hart 0 runs
+/// for 200,000 steps, and a watch on it.
 #[tactic(auto, unfolding(crate::specs::Generator::gen_job_of))]
 pub fn gen_job(alloc: Global, number: u32) -> Result<Job, AllocError>
     ensures job { IfOk result (λ job. job ≡ gen_job_of number) }

@@ -11,8 +11,9 @@ use hv_job::{Directive, Name, Placed};
 use hv_samples::{Sample, sample};
 use std::alloc::{AllocError, Global};
 
-/// The parts of a tower of `depth` machines (at most `DEPTH`), of which the innermost has `pages` pages (1 to 16384): for each level
-/// the line of its machine, and of the sample, `Pass` or `Forward`, that runs it. All parts have the line's number.
+/// The parts of a tower of `depth` machines (at most `DEPTH`), of which the innermost has `pages` pages (1 to `PAGES`):
+/// for each level the line of its machine, and of the sample, `Pass` or `Forward`, that runs it. All parts have the
+/// line's number.
 pub fn tower(
     alloc: Global,
     depth: u32,
@@ -96,15 +97,26 @@ fn sample_image(alloc: Global, which: Sample) -> Result<Image, AllocError>
 }
 
 /// The name of the machine at a level of a tower.
+#[tactic(auto, using(crate::proofs::Naming::level_names))]
 pub(crate) fn level_name(level: u32) -> Name
     requires { level ≤ depth_limit }
     ensures { result ≡ level_name_of level }
 {
     if level == 0 {
         name(b"root")
+    } else if level < 10 {
+        name(&[b't', digit(level)])
     } else {
-        name(&[b't', b'0' + level as u8])
+        name(&[b't', digit(level / 10), digit(level % 10)])
     }
+}
+
+// The letter of a decimal digit.
+fn digit(value: u32) -> u8
+    requires { value < 10 }
+    ensures { result ≡ 48 + value }
+{
+    b'0' + value as u8
 }
 
 /// The name of these letters.

@@ -17,8 +17,8 @@ use hv_map::Chain;
 use hv_store::Store;
 use std::alloc::Global;
 
-/// Where a machine lies in its parent's pages: its block, how many pages it has, where its table begins, and where its pages
-/// do.
+/// Where a machine lies in its parent's pages: its block, how many pages it has, where its table begins, and where its
+/// pages do.
 #[derive(Clone, Copy)]
 pub(crate) struct Layout {
     pub(crate) block: u32,

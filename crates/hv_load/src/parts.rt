@@ -4,7 +4,7 @@ ghost use Rattle.std.specs.Prelude.{◌≡◌, ◌≤◌, IfOk, length, take, �
 ghost use Rattle.hv_load.specs.Building.{known as known_of, known_inside as known_inside_of, named as named_in};
 ghost use Rattle.hv_load.specs.Pages.{outer as outer_of};
 ghost use Rattle.hv_limits.specs.Limits.{depth_limit};
-ghost use Rattle.std.specs.Prelude.{is_some};
+ghost use Rattle.std.specs.Option.{option_copied};
 
 use crate::ends::BuildKind;
 use hv_job::Name;
@@ -104,16 +104,10 @@ impl<T: Drop> From<AllocFailed<T>> for DirectiveEnd {
 }
 
 /// The first machine of this name.
-#[tactic(auto, using(crate::proofs::Lists::lists))]
-pub(crate) fn named(name: &[u8], names: &[Entry]) -> Option<Entry>
-    ensures { result ≡ named_in name.now names.now }
+pub(crate) fn named<'a>(name: &[u8], names: &'a [Entry]) -> Option<&'a Entry>
+    ensures { option_copied result ≡ named_in name.now names.now }
 {
-    for entry in names {
-        if entry.name.is(name) {
-            return Some(entry.copied());
-        }
-    }
-    None
+    names.iter().find(|entry| entry.name.is(name))
 }
 
 /// The same where there must be one.
@@ -121,7 +115,7 @@ pub(crate) fn known(name: &[u8], names: &[Entry]) -> Result<Entry, BuildKind>
     ensures { result ≡ known_of name.now names.now }
 {
     match named(name, names) {
-        Some(entry) => Ok(entry),
+        Some(entry) => Ok(entry.copied()),
         None => Err(BuildKind::Unknown),
     }
 }

@@ -21,8 +21,8 @@ pub struct Dump {
     pub page: u32,
 }
 
-/// The machines in the order in which they were made, the bare machine first under the name `root`; what is watched; and
-/// what is shown at the end.
+/// The machines in the order in which they were made, the bare machine first under the name `root`; what is watched;
+/// and what is shown at the end.
 #[derive(Drop)]
 pub struct Plan {
     pub names: Items<Named>,

@@ -14,7 +14,7 @@ use Rattle.hv_job.specs.declared.job.Job.{Job}
 use Rattle.hv_job.specs.declared.job.Placed.{Placed}
 use Rattle.hv_job.specs.IsJob.{IsJob, Happening, TurnOf, LinesOf, happening_of, event_of as happening_on}
 use Rattle.hv_load.specs.Building.{Building, nothing_built}
-use Rattle.hv_load.specs.Build.{done_of, at_line, and_then, built_from, ended, build_of}
+use Rattle.hv_load.specs.Build.{done_of, at_line, and_then, built_from, end_of, build_of}
 use Rattle.hv_load.specs.declared.ends.BuildKind.{BuildKind}
 use Rattle.hv_load.specs.declared.ends.BuildKind.TheVariants as kind
 use Rattle.hv_load.specs.declared.start.Start.{Start}
@@ -73,7 +73,7 @@ pub own_events : (job : Job) (start : Start) → IsJob job → build_of job ≡ 
 unfolding build_of
 own_events job start is e = by (built_from (nothing_built job.pages job.harts) job.lines) refl e
   where
-    by : (r : Result Building (ℕ × BuildKind)) → built_from (nothing_built job.pages job.harts) job.lines ≡ r → and_then r (ended job.commands) ≡ Ok start → All (λ (e : Event). hart_of e < job.harts) job.recording
+    by : (r : Result Building (ℕ × BuildKind)) → built_from (nothing_built job.pages job.harts) job.lines ≡ r → and_then r (end_of job.commands) ≡ Ok start → All (λ (e : Event). hart_of e < job.harts) job.recording
     by (Err refusal) same e = cc
     by (Ok end) same e =
         events_there job.harts job.recording

@@ -1,12 +1,12 @@
 -- Taking numbers out of a set.
-use Rattle.std.proofs.Common.{◌≡◌, ◌≢◌, ℕ, ◌+◌, ◌*◌, ◌/◌, ◌%◌, ◌^◌, ◌<◌, inl, inr, Bool, true, false, not, ◌||◌, ◌&&◌, ◌==◌, cond, Option, Some, None, List, [], ◌∷◌, length, get_or, set, replicate, refl, ap, subst, ◌∙◌, sym, arith, w32}
+use Rattle.std.proofs.Common.{◌≡◌, ◌≢◌, ℕ, ◌*◌, ◌/◌, ◌%◌, ◌^◌, ◌<◌, inl, inr, Bool, true, false, not, ◌||◌, ◌&&◌, ◌==◌, cond, List, [], ◌∷◌, length, get_or, set, refl, ap, ◌∙◌, sym, arith, w32}
 use Rattle.std.specs.Prelude.{bit_and}
 use Rattle.std.specs.Int.{bit_not}
 use Rattle.std.proofs.lemmas.Bool.Decides.{eqb_tells}
 use Rattle.std.proofs.lemmas.List.{get_or-set_same, get_or-set_other}
 use Rattle.std.proofs.lemmas.Nat.Bits.{bit_at_clear_same, bit_at_clear_other}
 use Rattle.hv_map.specs.Apart.{has}
-use Rattle.hv_nest.specs.Watched.{without, but_lines}
+use Rattle.hv_nest.specs.Watched.{without}
 use Rattle.hv_apart.specs.Marked.{is_marked, SetOf, Joined}
 
 -- what is cleared

@@ -1,5 +1,5 @@
 -- The places of a machine's words, some more each time.
-use Rattle.std.proofs.Common.{◌≡◌, ℕ, zero, suc, ◌+◌, ◌*◌, ◌%◌, ◌<◌, List, [], ◌∷◌, ◌++◌, length, map, Option, Some, None, refl, ap, ap₂, ◌∙◌, sym, arith, slice_get, take, append_assoc}
+use Rattle.std.proofs.Common.{◌≡◌, ℕ, suc, ◌+◌, ◌*◌, ◌%◌, ◌<◌, List, [], ◌∷◌, ◌++◌, length, map, Option, Some, None, refl, ap, ap₂, ◌∙◌, sym, arith, slice_get, take, append_assoc}
 use Rattle.std.specs.List.{range_with_len, flat_map}
 use Rattle.std.specs.Option.{option_to_list}
 use Rattle.std.proofs.lemmas.List.{append-nil}
@@ -15,7 +15,7 @@ use Rattle.hv_map.specs.Compose.{compose, reading, table_of}
 use Rattle.hv_map.specs.Item.{Item}
 use Rattle.hv_map.specs.Links.{chain_item}
 use Rattle.hv_map.specs.declared.chain.ChainItem.{ChainItem}
-use Rattle.hv_nest.specs.Watched.{places, item_foot, chain_foot, last_block, own_places, page_foot}
+use Rattle.hv_nest.specs.Watched.{places, item_foot, chain_foot, own_places, page_foot}
 use Rattle.hv_apart.specs.Table.{machine_of, table_places, places_in}
 use Rattle.hv_apart.proofs.Growing.{range-push, take-push, flat_map-push, pages-push}
 

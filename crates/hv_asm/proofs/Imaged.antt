@@ -12,7 +12,7 @@ use Rattle.hv_lex.specs.declared.Kind.{Kind}
 use Rattle.hv_lex.specs.declared.Kind.TheVariants.{Name, Number, Comma, Colon, Open, Close}
 use Rattle.hv_lex.specs.declared.LexEnd.{LexEnd}
 use Rattle.hv_asm.specs.Assembly.{asm_of, has_room, is_label, is_refused, line_words, place_from, place_of, repeats, words_from, worked_words}
-use Rattle.hv_asm.specs.Law.{AssemblerLaw, HasWords, IsAssembled, Line, address_of, all_words, behind_label, defines, operands_in}
+use Rattle.hv_asm.specs.Law.{AssemblerLaw, HasWords, IsAssembled, AssembledLine, address_of, all_words, behind_label, defines, operands_in}
 use Rattle.hv_asm.specs.Meaning.{Contributes}
 use Rattle.hv_asm.specs.Names.{operation_name, operation_of, operations}
 use Rattle.hv_asm.specs.Operands.{Deed, Reading, Work, begins_label, deed_of, groups_of, named, operand_of, operands_from, operands_of, read_of, read_tokens, reading_of, size_of, text_of, worked}
@@ -171,18 +171,18 @@ line_reads find_label base n at line ws e = next (tokens_of line) refl e where
       }
 
 -- each line behind the words of those before it
-abbrev pub Follow : ℕ → List Line → Type 0
+abbrev pub Follow : ℕ → List AssembledLine → Type 0
 Follow at [] = Unit {0}
 Follow at (l ∷ ls) = (l.at ≡ at) × Follow (at + 4 * length l.words) ls
 
-placed : (at : ℕ) (front behind : List Line) (l : Line) → Follow at (front ++ l ∷ behind) → l.at ≡ at + 4 * length (all_words front)
+placed : (at : ℕ) (front behind : List AssembledLine) (l : AssembledLine) → Follow at (front ++ l ∷ behind) → l.at ≡ at + 4 * length (all_words front)
 placed at [] behind l follows = omega (arith, follows.0)
 placed at (f ∷ fs) behind l follows =
     let rest = placed (at + 4 * length f.words) fs behind l follows.1 in
     omega (arith, rest, length-append f.words (all_words fs))
 
 pub record Laid (find_label : List ℕ → Option Place) (n at : ℕ) (lines : List (List ℕ)) (ws : List ℕ) : Type 0 where
-  pub all : List Line
+  pub all : List AssembledLine
   pub texts : map (λ l. l.text) all ≡ lines
   pub in_order : all_words all ≡ ws
   pub follows : Follow at all
@@ -206,7 +206,7 @@ laid find_label base n at (line ∷ lines) ws e =
     let size = (line_sized find_label base n at line r s.0 s.1).0 in
     let read = line_reads find_label base n at line s.0 s.1 in
     let rest = laid find_label base (n + 1) (at + size_of r.deed) lines t.0 t.1 in
-    let l : Line = record { text = line; tokens = read.tokens; at = at; words = s.0 } in
+    let l : AssembledLine = record { text = line; tokens = read.tokens; at = at; words = s.0 } in
     record {
       all = l ∷ rest.all;
       texts = ap (λ ls. line ∷ ls) rest.texts;
@@ -218,7 +218,7 @@ laid find_label base n at (line ∷ lines) ws e =
           ∙ chosen (defines name line read.tokens) n l (place_from (n + 1) (at + size_of r.deed) lines name) (find (λ l. defines name l.text l.tokens) rest.all) (rest.labels name);
     }
   where
-    chosen : (b : Bool) (n : ℕ) (l : Line) (place : Option Place) (found : Option Line) → option_map (λ place. place.at) place ≡ option_map (λ l. l.at) found → option_map (λ place. place.at) (cond b (Some (record { line = n; at = l.at })) place) ≡ option_map (λ l. l.at) (cond b (Some l) found)
+    chosen : (b : Bool) (n : ℕ) (l : AssembledLine) (place : Option Place) (found : Option AssembledLine) → option_map (λ place. place.at) place ≡ option_map (λ l. l.at) found → option_map (λ place. place.at) (cond b (Some (record { line = n; at = l.at })) place) ≡ option_map (λ l. l.at) (cond b (Some l) found)
     chosen true n l place found same = refl
     chosen false n l place found same = same
 

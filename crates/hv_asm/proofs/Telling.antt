@@ -5,8 +5,8 @@ use Rattle.hv_lex.specs.Lines.{lines_of, cut_of}
 use Rattle.hv_asm.specs.Assembly.{words_from, line_words, in_front, and_then}
 use Rattle.hv_asm.specs.Answer.{Refuses, ended}
 use Rattle.hv_asm.specs.Emitted.{Appends, with_front}
-use Rattle.hv_asm.specs.declared.emits.LineEnd.{LineEnd}
-use Rattle.hv_asm.specs.declared.emits.LineEnd.TheVariants as lined
+use Rattle.hv_asm.specs.declared.emits.EmitEnd.{EmitEnd}
+use Rattle.hv_asm.specs.declared.emits.EmitEnd.TheVariants as lined
 use Rattle.hv_asm.specs.Operands.{Reading, read_of, size_of}
 use Rattle.hv_asm.specs.declared.AsmKind.{AsmKind}
 use Rattle.hv_asm.specs.declared.labels.Place.{Place}
@@ -39,7 +39,7 @@ module _ (find : List ℕ → Option Place) (base n at size : ℕ) (line s behin
   pub told_stop : (old : List ℕ) (all : Answer) (k : AsmKind) → line_words find base n at line r ≡ Err k → in_front old (words_from find base n at (lines_of s)) ≡ all → all ≡ Err (n, k)
   told_stop old all k is told = sym told ∙ ap (in_front old) next ∙ stopped old n _ _ k is
 
-  pub told_ended : (old new : List ℕ) (all : Answer) (e : LineEnd) → Appends {A = Unit {0}} (Err e) (line_words find base n at line r) old new → in_front old (words_from find base n at (lines_of s)) ≡ all → Refuses (ended e n) all
+  pub told_ended : (old new : List ℕ) (all : Answer) (e : EmitEnd) → Appends {A = Unit {0}} (Err e) (line_words find base n at line r) old new → in_front old (words_from find base n at (lines_of s)) ≡ all → Refuses (ended e n) all
   told_ended old new all (lined.Fault k) is told = told_stop old all k is told
   told_ended old new all lined.Memory is told = tt
 

@@ -4,6 +4,7 @@ use Rattle.std.proofs.Common.{suc}
 use Rattle.hv_asm.specs.declared.amounts.Amount.{Amount}
 use Rattle.hv_asm.specs.declared.amounts.Amount.TheVariants.{Plus, Minus}
 
+-- a number by its sign and its size
 abbrev pub amount_of : ℤ → Amount
 amount_of (pos n) = Plus n
 amount_of (negsuc n) = Minus (suc n)
@@ -18,6 +19,7 @@ abbrev pub within_signed : ℕ → Amount → Bool
 within_signed bound (Plus n) = nat_lt n bound
 within_signed bound (Minus n) = nat_le n bound
 
+-- a multiple of 2
 abbrev pub is_even : Amount → Bool
 is_even (Plus n) = n % 2 == 0
 is_even (Minus n) = n % 2 == 0

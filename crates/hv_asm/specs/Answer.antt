@@ -4,8 +4,8 @@ use Rattle.std.specs.declared.alloc.Global.{Global}
 use Rattle.hv_asm.specs.declared.AsmEnd.{AsmEnd}
 use Rattle.hv_asm.specs.declared.AsmEnd.TheVariants.{AsmFault, Memory}
 use Rattle.hv_asm.specs.declared.AsmKind.{AsmKind}
-use Rattle.hv_asm.specs.declared.emits.LineEnd.{LineEnd}
-use Rattle.hv_asm.specs.declared.emits.LineEnd.TheVariants as line
+use Rattle.hv_asm.specs.declared.emits.EmitEnd.{EmitEnd}
+use Rattle.hv_asm.specs.declared.emits.EmitEnd.TheVariants as line
 use Rattle.hv_asm.specs.declared.Image.{Image}
 
 -- a refusal is the one that the text has; memory may be wanting whatever it has
@@ -24,6 +24,6 @@ GivesImage base (Ok image) text = (text ≡ Ok image.words) × (image.base ≡ b
 GivesImage base (Err end) text = Refuses end text
 
 -- why a text has no words, from why a line has none
-abbrev pub ended : LineEnd → ℕ → AsmEnd
+abbrev pub ended : EmitEnd → ℕ → AsmEnd
 ended (line.Fault kind) number = AsmFault number kind
 ended line.Memory number = Memory

@@ -9,6 +9,7 @@ use Rattle.hv_asm.specs.declared.AsmKind.{AsmKind}
 use Rattle.hv_asm.specs.declared.AsmKind.TheVariants as fault
 use Rattle.hv_asm.specs.declared.labels.Place.{Place}
 
+-- the name that a line defines, if it defines one, is this
 abbrev pub is_label : List ℕ → Option (List ℕ) → Bool
 is_label name None = false
 is_label name (Some label) = bytes_eq label name
@@ -24,6 +25,7 @@ place_from number at (line ∷ lines) name =
 abbrev pub place_of : (base : ℕ) → List (List ℕ) → List ℕ → Option Place
 place_of base lines name = place_from 1 base lines name
 
+-- a place is on a line before this one
 abbrev pub is_before : ℕ → Option Place → Bool
 is_before number None = false
 is_before number (Some place) = nat_lt place.line number
@@ -45,6 +47,7 @@ worked_words find base at end line (Work None operands) = Err fault.Mnemonic
 worked_words find base at end line (Work (Some operation) operands) =
     words_with find at line operation operands >>= λ words. if has_room base end then Ok words else Err fault.Range
 
+-- a line is refused as it is read
 abbrev pub is_refused : Deed → Bool
 is_refused (Refused kind) = true
 is_refused Nothing = false
@@ -57,10 +60,12 @@ line_words find base number at line r =
     else if repeats find number r.label then Err fault.Repeat
     else worked_words find base at (at + size_of r.deed) line r.deed
 
+-- words in front of those of the lines behind
 abbrev pub in_front : List ℕ → Result (List ℕ) (ℕ × AsmKind) → Result (List ℕ) (ℕ × AsmKind)
 in_front front (Ok words) = Ok (front ++ words)
 in_front front (Err end) = Err end
 
+-- the words of a line and of those behind it, or the first refusal with the number of its line
 abbrev pub and_then : ℕ → Result (List ℕ) AsmKind → Result (List ℕ) (ℕ × AsmKind) → Result (List ℕ) (ℕ × AsmKind)
 and_then number (Err kind) behind = Err (number, kind)
 and_then number (Ok words) behind = in_front words behind

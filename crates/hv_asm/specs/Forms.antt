@@ -9,6 +9,7 @@ use Rattle.hv_asm.specs.declared.amounts.Amount.{Amount}
 use Rattle.hv_asm.specs.declared.forms.Form.{Form}
 use Rattle.hv_asm.specs.declared.forms.Form.TheVariants.{Registers, Immediate, ShiftAmount, Load, Store, Branch, Jump, Upper, CsrRegister, CsrNumber, Sources, Source, Bare}
 
+-- what follows where nothing was refused
 infixl 10 ◌>>=◌
 abbrev pub ◌>>=◌ : {A B : Type 0} → Result A AsmKind → (A → Result B AsmKind) → Result B AsmKind
 (Ok x) >>= f = f x

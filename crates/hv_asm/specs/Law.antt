@@ -13,14 +13,14 @@ use Rattle.hv_asm.specs.declared.names.Operation.{Operation}
 use Rattle.hv_asm.specs.Meaning.{Addresses, Contributes}
 
 -- A line: its bytes, its tokens, its address, and the words that it contributes.
-pub record Line : Type 0 where
+pub record AssembledLine : Type 0 where
   pub text : List ℕ
   pub tokens : List Token
   pub at : ℕ
   pub words : List ℕ
 
 -- the words of lines, one after another
-abbrev pub all_words : List Line → List ℕ
+abbrev pub all_words : List AssembledLine → List ℕ
 all_words lines = flat_map (λ l. l.words) lines
 
 -- a line defines a label of this name: its first two tokens are the name and a colon
@@ -34,7 +34,7 @@ behind_label (a ∷ b ∷ ts) = if begins_label a.kind b.kind then ts else a ∷
 behind_label ts = ts
 
 -- a label's address: that of the first line that defines it
-abbrev pub address_of : List Line → List ℕ → Option ℕ
+abbrev pub address_of : List AssembledLine → List ℕ → Option ℕ
 address_of lines name = option_map (λ l. l.at) (find (λ l. defines name l.text l.tokens) lines)
 
 -- operands: what stands between commas, and none where nothing stands
@@ -51,18 +51,19 @@ HasWords labels at line (t ∷ ts) words =
     × Contributes labels at line operation (operands_in ts) words
 
 -- A line is as it is read, and its words are those that its operation makes.
-pub record IsAssembled (labels : Addresses) (l : Line) : Type 0 where
+pub record IsAssembled (labels : Addresses) (l : AssembledLine) : Type 0 where
   pub tokens : tokens_of l.text ≡ Ok l.tokens
   pub words : HasWords labels l.at l.text (behind_label l.tokens) l.words
 
 -- The words of a text from a base on: those of its lines in order. A line's address is the base and four times the
 -- number of the words before it, and a label's is that of the first line that defines it.
 pub record HasImage (text : List ℕ) (base : ℕ) (words : List ℕ) : Type 0 where
-  pub lines : List Line
+  pub lines : List AssembledLine
   pub texts : map (λ l. l.text) lines ≡ lines_of text
   pub in_order : all_words lines ≡ words
   pub places :
-      (front behind : List Line) (l : Line) → lines ≡ front ++ l ∷ behind → l.at ≡ base + 4 * length (all_words front)
+      (front behind : List AssembledLine) (l : AssembledLine) → lines ≡ front ++ l ∷ behind
+      → l.at ≡ base + 4 * length (all_words front)
   pub meaning : All (IsAssembled (address_of lines)) lines
 
 -- what is assembled means what is written

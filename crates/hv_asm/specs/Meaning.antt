@@ -96,11 +96,12 @@ pub record IsLoad (rd v : ℕ) (words : List ℕ) : Type 0 where
   pub addi : decode_of second ≡ Some (record { op = op.Addi; rd = rd; rs1 = rd; rs2 = 0; imm = low })
   pub sum : (high + low) % 2 ^ 32 ≡ v
 
--- operands of one token each: one, and two
+-- one operand, of one token
 abbrev pub One : (Token → Type 0) → List (List Token) → Type 0
 One P (a ∷ []) = Alone P a
 One P _ = ⊥
 
+-- two operands of one token each
 abbrev pub Two : (P Q : Token → Type 0) → List (List Token) → Type 0
 Two P Q (a ∷ b ∷ []) = Alone P a × Alone Q b
 Two P Q _ = ⊥

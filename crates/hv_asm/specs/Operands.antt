@@ -22,6 +22,7 @@ use Rattle.hv_asm.specs.declared.operands.Operand.TheVariants as operand
 abbrev pub text_of : List ℕ → Token → List ℕ
 text_of line token = drop token.start (take token.end line)
 
+-- a token is a comma
 abbrev pub is_comma : Kind → Bool
 is_comma Comma = true
 is_comma Name = false
@@ -39,6 +40,7 @@ abbrev pub groups_behind : Option (List Token) → List (List Token)
 groups_behind None = []
 groups_behind (Some ts) = groups_of ts
 
+-- the operand that a token alone is
 abbrev pub single : Kind → Token → Option Operand
 single Name t = Some (operand.Name t)
 single (Number v) t = Some (operand.Number (amount_of v))
@@ -74,10 +76,12 @@ pub data Deed : Type 0 where
   -- an operation, if its name is one, and its operands
   Work : (operation : Option Operation) (operands : List Operand) → Deed
 
+-- an operation by its name and its operands, if these have their shape
 abbrev pub worked : List ℕ → Token → Option (List Operand) → Deed
 worked line t None = Refused fault.Syntax
 worked line t (Some operands) = Work (operation_of (text_of line t)) operands
 
+-- what begins with a token of this kind: only a name can be an operation
 abbrev pub named : Kind → Deed → Deed
 named Name deed = deed
 named (Number v) deed = Refused fault.Syntax
@@ -101,17 +105,20 @@ pub record Reading : Type 0 where
   pub label : Option (List ℕ)
   pub deed : Deed
 
+-- a line from its tokens
 unfoldable pub reading_of : List ℕ → List Token → Reading
 reading_of line (a ∷ b ∷ ts) =
     if begins_label a.kind b.kind then record { label = Some (text_of line a); deed = deed_of line ts }
     else record { label = None; deed = deed_of line (a ∷ b ∷ ts) }
 reading_of line ts = record { label = None; deed = deed_of line ts }
 
+-- how a line without tokens is refused
 abbrev pub kind_of : LexEnd → AsmKind
 kind_of (BadByte at) = fault.Byte
 kind_of (BadNumber at) = fault.Syntax
 kind_of Memory = fault.Syntax
 
+-- a line from its tokens, if it has them
 abbrev pub read_tokens : List ℕ → Result (List Token) LexEnd → Reading
 read_tokens line (Ok ts) = reading_of line ts
 read_tokens line (Err end) = record { label = None; deed = Refused (kind_of end) }

@@ -19,6 +19,7 @@ use Rattle.hv_asm.specs.declared.labels.Place.{Place}
 use Rattle.hv_asm.specs.declared.operands.Operand.{Operand}
 use Rattle.hv_asm.specs.declared.operands.Operand.TheVariants.{Name, Number, Based}
 
+-- what is there, or a refusal
 abbrev pub or_fault : {A : Type 0} → AsmKind → Option A → Result A AsmKind
 or_fault kind (Some x) = Ok x
 or_fault kind None = Err kind
@@ -27,11 +28,13 @@ or_fault kind None = Err kind
 unfoldable pub register_at : List ℕ → Token → Result ℕ AsmKind
 register_at line t = or_fault fault.Operand (register_of (text_of line t))
 
+-- the register that an operand names
 unfoldable pub register : List ℕ → Operand → Result ℕ AsmKind
 register line (Name t) = register_at line t
 register line (Number a) = Err fault.Operand
 register line (Based a t) = Err fault.Operand
 
+-- the number that an operand is
 unfoldable pub number : Operand → Result Amount AsmKind
 number (Number a) = Ok a
 number (Name t) = Err fault.Operand
@@ -53,6 +56,7 @@ target find at line (Name t) = address find line t >>= λ to. Ok (distance at to
 target find at line (Number a) = Ok a
 target find at line (Based a t) = Err fault.Operand
 
+-- rd, rs1, rs2
 unfoldable pub registers_word : List ℕ → Op → List Operand → Result ℕ AsmKind
 registers_word line op (a ∷ b ∷ c ∷ []) =
     register line a >>= λ rd. register line b >>= λ rs1. register line c >>= λ rs2. word_with op rd rs1 rs2 (Plus 0)
@@ -64,16 +68,19 @@ immediate_word line op (a ∷ b ∷ n ∷ []) =
     register line a >>= λ rd. register line b >>= λ rs1. number n >>= λ imm. word_with op rd rs1 0 imm
 immediate_word line op _ = Err fault.Operand
 
+-- rd, and a number with rs1
 unfoldable pub load_word : List ℕ → Op → List Operand → Result ℕ AsmKind
 load_word line op (a ∷ Based imm t ∷ []) =
     register line a >>= λ rd. register_at line t >>= λ rs1. word_with op rd rs1 0 imm
 load_word line op _ = Err fault.Operand
 
+-- rs2, and a number with rs1
 unfoldable pub store_word : List ℕ → Op → List Operand → Result ℕ AsmKind
 store_word line op (a ∷ Based imm t ∷ []) =
     register line a >>= λ rs2. register_at line t >>= λ rs1. word_with op 0 rs1 rs2 imm
 store_word line op _ = Err fault.Operand
 
+-- rs1, rs2 and a target
 unfoldable pub branch_word : (List ℕ → Option Place) → ℕ → List ℕ → Op → List Operand → Result ℕ AsmKind
 branch_word find at line op (a ∷ b ∷ to ∷ []) =
     register line a >>= λ rs1. register line b >>= λ rs2. target find at line to >>= λ offset.
@@ -86,6 +93,7 @@ zero_word find at line op (a ∷ to ∷ []) =
     register line a >>= λ rs1. target find at line to >>= λ offset. word_with op 0 rs1 0 offset
 zero_word find at line op _ = Err fault.Operand
 
+-- rd and a target
 unfoldable pub jump_word : (List ℕ → Option Place) → ℕ → List ℕ → List Operand → Result ℕ AsmKind
 jump_word find at line (a ∷ to ∷ []) =
     register line a >>= λ rd. target find at line to >>= λ offset. word_with op.Jal rd 0 0 offset
@@ -96,10 +104,12 @@ unfoldable pub plain_jump_word : (List ℕ → Option Place) → ℕ → List �
 plain_jump_word find at line (to ∷ []) = target find at line to >>= λ offset. word_with op.Jal 0 0 0 offset
 plain_jump_word find at line _ = Err fault.Operand
 
+-- rd and the bits 31 to 12
 unfoldable pub upper_word : List ℕ → Op → List Operand → Result ℕ AsmKind
 upper_word line op (a ∷ n ∷ []) = register line a >>= λ rd. number n >>= λ imm. word_with op rd 0 0 imm
 upper_word line op _ = Err fault.Operand
 
+-- rd, a control and status register, rs1
 unfoldable pub csr_register_word : List ℕ → Op → List Operand → Result ℕ AsmKind
 csr_register_word line op (a ∷ b ∷ c ∷ []) =
     register line a >>= λ rd. csr line b >>= λ imm. register line c >>= λ rs1. word_with op rd rs1 0 imm
@@ -109,17 +119,20 @@ csr_register_word line op _ = Err fault.Operand
 unfoldable pub small : Amount → Result ℕ AsmKind
 small n = ranged (within 32 n) (word_of n)
 
+-- rd, a control and status register, and a number in the place of rs1
 unfoldable pub csr_number_word : List ℕ → Op → List Operand → Result ℕ AsmKind
 csr_number_word line op (a ∷ b ∷ n ∷ []) =
     register line a >>= λ rd. csr line b >>= λ imm. number n >>= λ value. small value >>= λ rs1.
     word_with op rd rs1 0 imm
 csr_number_word line op _ = Err fault.Operand
 
+-- rs1, rs2
 unfoldable pub sources_word : List ℕ → Op → List Operand → Result ℕ AsmKind
 sources_word line op (a ∷ b ∷ []) =
     register line a >>= λ rs1. register line b >>= λ rs2. word_with op 0 rs1 rs2 (Plus 0)
 sources_word line op _ = Err fault.Operand
 
+-- rs1
 unfoldable pub source_word : List ℕ → Op → List Operand → Result ℕ AsmKind
 source_word line op (a ∷ []) = register line a >>= λ rs1. word_with op 0 rs1 0 (Plus 0)
 source_word line op _ = Err fault.Operand
@@ -131,6 +144,7 @@ bare_word op.FenceI [] = Ok 0x0000100F
 bare_word op [] = word_with op 0 0 0 (Plus 0)
 bare_word op _ = Err fault.Operand
 
+-- the word of an instruction by its form
 unfoldable pub form_word : (List ℕ → Option Place) → ℕ → List ℕ → Op → Form → List Operand → Result ℕ AsmKind
 form_word find at line op form.Registers operands = registers_word line op operands
 form_word find at line op form.Immediate operands = immediate_word line op operands

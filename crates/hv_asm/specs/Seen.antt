@@ -6,11 +6,13 @@ use Rattle.hv_asm.specs.declared.lines.Body.{Body}
 use Rattle.hv_asm.specs.declared.lines.Body.TheVariants as body
 use Rattle.hv_asm.specs.declared.lines.Line.{Line}
 
+-- what a line does, its operands as a list
 abbrev pub deed_in : Body → Deed
 deed_in (body.Refused kind) = Refused kind
 deed_in body.Nothing = Nothing
 deed_in (body.Work operation operands) = Work operation operands.items
 
+-- the label as its name
 abbrev pub reading_in : List ℕ → Line → Reading
 reading_in line read = record { label = option_map (text_of line) read.label; deed = deed_in read.body }
 

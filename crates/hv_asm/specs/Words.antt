@@ -36,27 +36,33 @@ pair_words rd v =
     word_with op.Lui rd 0 0 (high_part v) >>= λ high. word_with op.Addi rd rd 0 (low_part v) >>= λ low.
     Ok (high ∷ low ∷ [])
 
+-- a number in a register
 unfoldable pub li_words : List ℕ → List Operand → Result (List ℕ) AsmKind
 li_words line (a ∷ n ∷ []) = register line a >>= λ rd. number n >>= λ amount. value amount >>= λ v. pair_words rd v
 li_words line _ = Err fault.Operand
 
+-- a label's address in a register
 unfoldable pub la_words : (List ℕ → Option Place) → List ℕ → List Operand → Result (List ℕ) AsmKind
 la_words find line (a ∷ Name t ∷ []) =
     register line a >>= λ rd. address find line t >>= λ to. pair_words rd (to % 2 ^ 32)
 la_words find line _ = Err fault.Operand
 
+-- an instruction of which only rs1 is given, without operands
 unfoldable pub bare_short : Op → ℕ → List Operand → Result ℕ AsmKind
 bare_short op rs1 [] = word_with op 0 rs1 0 (Plus 0)
 bare_short op rs1 _ = Err fault.Operand
 
+-- one register to another
 unfoldable pub move_word : List ℕ → List Operand → Result ℕ AsmKind
 move_word line (a ∷ b ∷ []) = register line a >>= λ rd. register line b >>= λ rs1. word_with op.Addi rd rs1 0 (Plus 0)
 move_word line _ = Err fault.Operand
 
+-- rd and a control and status register, which is read
 unfoldable pub csr_read_word : List ℕ → List Operand → Result ℕ AsmKind
 csr_read_word line (a ∷ b ∷ []) = register line a >>= λ rd. csr line b >>= λ imm. word_with op.Csrrs rd 0 0 imm
 csr_read_word line _ = Err fault.Operand
 
+-- a control and status register, which is written, and rs1
 unfoldable pub csr_write_word : List ℕ → List Operand → Result ℕ AsmKind
 csr_write_word line (a ∷ b ∷ []) = csr line a >>= λ imm. register line b >>= λ rs1. word_with op.Csrrw 0 rs1 0 imm
 csr_write_word line _ = Err fault.Operand
@@ -92,10 +98,12 @@ value_at find line (Name t) = address find line t >>= λ at. Ok (at % 2 ^ 32)
 value_at find line (Number a) = value a
 value_at find line (Based a t) = Err fault.Operand
 
+-- the words of numbers and labels, in order
 unfoldable pub values_of : (List ℕ → Option Place) → List ℕ → List Operand → Result (List ℕ) AsmKind
 values_of find line [] = Ok []
 values_of find line (o ∷ os) = value_at find line o >>= λ w. values_of find line os >>= λ ws. Ok (w ∷ ws)
 
+-- the words of `.word`, at least one
 unfoldable pub value_words : (List ℕ → Option Place) → List ℕ → List Operand → Result (List ℕ) AsmKind
 value_words find line operands =
     if length operands == 0 then Err fault.Operand

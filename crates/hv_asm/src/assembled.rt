@@ -9,7 +9,7 @@ ghost use Rattle.hv_asm.specs.Seen.{deed_in, reading_in};
 ghost use Rattle.std.specs.Option.{option_map};
 
 use crate::AsmKind;
-use crate::emits::{LineEnd, push_words};
+use crate::emits::{EmitEnd, push_words};
 use crate::labels::Labels;
 use crate::lines::{Body, Line};
 use crate::operands::text;
@@ -17,7 +17,7 @@ use hv_lex::Token;
 
 /// Where a line stands: the base of its text, its number, and the addresses of its first byte and behind its last.
 #[derive(Clone, Copy)]
-pub(crate) struct Spot {
+pub(crate) struct Extent {
     pub base: u32,
     pub number: u32,
     pub at: u64,
@@ -46,24 +46,24 @@ fn repeats(labels: &Labels, number: u32, line: &[u8], label: Option<Token>) -> b
 fn push_work(
     out: &mut Vec<u32>,
     labels: &Labels,
-    spot: Spot,
+    extent: Extent,
     line: &[u8],
     body: &Body,
-) -> Result<(), LineEnd>
+) -> Result<(), EmitEnd>
     ensures { Appends result
-        (worked_words (place_in labels.now) spot.base spot.at spot.end line.now (deed_in body.now))
+        (worked_words (place_in labels.now) extent.base extent.at extent.end line.now (deed_in body.now))
         out.old.items out.new.items }
 {
     match body {
-        Body::Refused(kind) => Err(LineEnd::Fault(*kind)),
+        Body::Refused(kind) => Err(EmitEnd::Fault(*kind)),
         Body::Nothing => Ok(()),
-        Body::Work(None, _) => Err(LineEnd::Fault(AsmKind::Mnemonic)),
+        Body::Work(None, _) => Err(EmitEnd::Fault(AsmKind::Mnemonic)),
         Body::Work(Some(operation), operands) => {
-            push_words(out, labels, spot.at, line, *operation, operands)?;
-            if has_room(spot.base, spot.end) {
+            push_words(out, labels, extent.at, line, *operation, operands)?;
+            if has_room(extent.base, extent.end) {
                 Ok(())
             } else {
-                Err(LineEnd::Fault(AsmKind::Range))
+                Err(EmitEnd::Fault(AsmKind::Range))
             }
         }
     }
@@ -74,20 +74,20 @@ fn push_work(
 pub(crate) fn push_line(
     out: &mut Vec<u32>,
     labels: &Labels,
-    spot: Spot,
+    extent: Extent,
     line: &[u8],
     read: &Line,
-) -> Result<(), LineEnd>
-    requires { spot.end ≡ spot.at + size_of (deed_in read.now.body) }
+) -> Result<(), EmitEnd>
+    requires { extent.end ≡ extent.at + size_of (deed_in read.now.body) }
     ensures { Appends result
-        (line_words (place_in labels.now) spot.base spot.number spot.at line.now (reading_in line.now read.now))
+        (line_words (place_in labels.now) extent.base extent.number extent.at line.now (reading_in line.now read.now))
         out.old.items out.new.items }
 {
     if let Body::Refused(kind) = &read.body {
-        return Err(LineEnd::Fault(*kind));
+        return Err(EmitEnd::Fault(*kind));
     }
-    if repeats(labels, spot.number, line, read.label) {
-        return Err(LineEnd::Fault(AsmKind::Repeat));
+    if repeats(labels, extent.number, line, read.label) {
+        return Err(EmitEnd::Fault(AsmKind::Repeat));
     }
-    push_work(out, labels, spot, line, &read.body)
+    push_work(out, labels, extent, line, &read.body)
 }

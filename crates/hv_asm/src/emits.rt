@@ -21,41 +21,41 @@ use std::alloc::{AllocError, AllocFailed};
 
 /// Why a line has no words.
 #[derive(Clone, Copy)]
-pub(crate) enum LineEnd {
+pub(crate) enum EmitEnd {
     Fault(AsmKind),
     Memory,
 }
 
-impl From<AsmKind> for LineEnd {
+impl From<AsmKind> for EmitEnd {
     ghost use Rattle.std.specs.Prelude.{◌≡◌};
-    ghost use Rattle.hv_asm.specs.declared.emits.LineEnd.TheVariants.{Fault};
+    ghost use Rattle.hv_asm.specs.declared.emits.EmitEnd.TheVariants.{Fault};
 
     ghost from_gives = { λ kind end. end ≡ Fault kind };
 
-    fn from(kind: AsmKind) -> LineEnd {
-        LineEnd::Fault(kind)
+    fn from(kind: AsmKind) -> EmitEnd {
+        EmitEnd::Fault(kind)
     }
 }
 
-impl From<AllocError> for LineEnd {
+impl From<AllocError> for EmitEnd {
     ghost use Rattle.std.specs.Prelude.{◌≡◌};
-    ghost use Rattle.hv_asm.specs.declared.emits.LineEnd.TheVariants.{Memory};
+    ghost use Rattle.hv_asm.specs.declared.emits.EmitEnd.TheVariants.{Memory};
 
     ghost from_gives = { λ _ end. end ≡ Memory };
 
-    fn from(_error: AllocError) -> LineEnd {
-        LineEnd::Memory
+    fn from(_error: AllocError) -> EmitEnd {
+        EmitEnd::Memory
     }
 }
 
-impl From<AllocFailed<u32>> for LineEnd {
+impl From<AllocFailed<u32>> for EmitEnd {
     ghost use Rattle.std.specs.Prelude.{◌≡◌};
-    ghost use Rattle.hv_asm.specs.declared.emits.LineEnd.TheVariants.{Memory};
+    ghost use Rattle.hv_asm.specs.declared.emits.EmitEnd.TheVariants.{Memory};
 
     ghost from_gives = { λ _ end. end ≡ Memory };
 
-    fn from(_failed: AllocFailed<u32>) -> LineEnd {
-        LineEnd::Memory
+    fn from(_failed: AllocFailed<u32>) -> EmitEnd {
+        EmitEnd::Memory
     }
 }
 
@@ -293,7 +293,7 @@ fn push_values(
     labels: &Labels,
     line: &[u8],
     operands: &[Operand],
-) -> Result<(), LineEnd>
+) -> Result<(), EmitEnd>
     ensures { Appends result (values_of (place_in labels.now) line.now operands.now) out.old.items out.new.items }
 {
     for operand in operands {
@@ -319,19 +319,19 @@ fn push_value_words(
     labels: &Labels,
     line: &[u8],
     operands: &[Operand],
-) -> Result<(), LineEnd>
+) -> Result<(), EmitEnd>
     ensures { Appends result (value_words_of (place_in labels.now) line.now operands.now) out.old.items out.new.items }
 {
     if operands.is_empty() || !are_values(operands) {
-        return Err(LineEnd::Fault(AsmKind::Operand));
+        return Err(EmitEnd::Fault(AsmKind::Operand));
     }
     if !are_defined(labels, line, operands) {
-        return Err(LineEnd::Fault(AsmKind::Label));
+        return Err(EmitEnd::Fault(AsmKind::Label));
     }
     push_values(out, labels, line, operands)
 }
 
-fn push_space(out: &mut Vec<u32>, operands: &[Operand]) -> Result<(), LineEnd>
+fn push_space(out: &mut Vec<u32>, operands: &[Operand]) -> Result<(), EmitEnd>
     ensures { Appends result (zeros_of operands.now) out.old.items out.new.items }
 {
     let count = space_count(operands)?;
@@ -339,7 +339,7 @@ fn push_space(out: &mut Vec<u32>, operands: &[Operand]) -> Result<(), LineEnd>
     Ok(())
 }
 
-fn push_pair(out: &mut Vec<u32>, pair: Result<[u32; 2], AsmKind>) -> Result<(), LineEnd>
+fn push_pair(out: &mut Vec<u32>, pair: Result<[u32; 2], AsmKind>) -> Result<(), EmitEnd>
     ensures { Appends result pair out.old.items out.new.items }
 {
     let pair = pair?;
@@ -347,7 +347,7 @@ fn push_pair(out: &mut Vec<u32>, pair: Result<[u32; 2], AsmKind>) -> Result<(), 
     Ok(())
 }
 
-fn push_one(out: &mut Vec<u32>, word: Result<u32, AsmKind>) -> Result<(), LineEnd>
+fn push_one(out: &mut Vec<u32>, word: Result<u32, AsmKind>) -> Result<(), EmitEnd>
     ensures { Appends result (alone word) out.old.items out.new.items }
 {
     let word = word?;
@@ -364,7 +364,7 @@ pub(crate) fn push_words(
     line: &[u8],
     operation: Operation,
     operands: &[Operand],
-) -> Result<(), LineEnd>
+) -> Result<(), EmitEnd>
     ensures { Appends result (words_with_of (place_in labels.now) at line.now operation operands.now)
         out.old.items out.new.items }
 {

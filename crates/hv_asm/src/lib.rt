@@ -20,8 +20,8 @@ mod operands;
 mod places;
 mod rows;
 
-use assembled::{Spot, push_line};
-use emits::LineEnd;
+use assembled::{Extent, push_line};
+use emits::EmitEnd;
 use hv_lex::first_line;
 use hv_list::Items;
 use labels::Labels;
@@ -138,13 +138,13 @@ fn assemble_lines(
         let (line, behind) = first_line(rest);
         let read = read_line(alloc, line)?;
         let end = at + size(&read.body);
-        let spot = Spot {
+        let extent = Extent {
             base,
             number,
             at,
             end,
         };
-        match push_line(&mut words, labels, spot, line, &read) {
+        match push_line(&mut words, labels, extent, line, &read) {
             Ok(()) => {}
             Err(end) => return Err(at_line(end, number)),
         }
@@ -156,12 +156,12 @@ fn assemble_lines(
 }
 
 // The end of a text at a line.
-fn at_line(end: LineEnd, line: u32) -> AsmEnd
+fn at_line(end: EmitEnd, line: u32) -> AsmEnd
     ensures { result ≡ ended end line }
 {
     match end {
-        LineEnd::Fault(kind) => AsmEnd::AsmFault { line, kind },
-        LineEnd::Memory => AsmEnd::Memory,
+        EmitEnd::Fault(kind) => AsmEnd::AsmFault { line, kind },
+        EmitEnd::Memory => AsmEnd::Memory,
     }
 }
 

@@ -13,7 +13,7 @@ use Rattle.hv_debug.specs.declared.stop.Stop.{Stop}
 use Rattle.hv_debug.specs.Answers.{at_line, echo_line}
 use Rattle.hv_debug.specs.Playing.{steps_from}
 use Rattle.hv_debug.specs.Reaching.{Goes, Halts, HasReached, IsSession, StaysOnWay}
-use Rattle.hv_debug.specs.Transcript.{Session, after_line, answered, stepped, told}
+use Rattle.hv_debug.specs.Transcript.{Session, after_line, after_command, after_steps, with_text}
 use Rattle.hv_debug.proofs.Reaches.{has_stayed, on_way}
 
 -- the player and the engine's state are the same
@@ -26,7 +26,7 @@ pub goes_on : (d e : Debugger) (here there : State) (count : ℕ) (stop : Stop)
     → Halts d.breaks.items count d.player here e.player there stop
     → e.breaks.items ≡ d.breaks.items
     → e.out.items ≡ d.out.items ++ at_line e.player.steps stop
-    → Goes (stepped count) d here e there
+    → Goes (after_steps count) d here e there
 goes_on d e here there count stop halts breaks text start moves s h =
     let x = subst (λ (bs : List Break). Halts bs count d.player here e.player there stop) h.breaks halts start moves s.reached h.reached in
     record {
@@ -42,10 +42,10 @@ pub line_goes : (d m e : Debugger) (here there : State) (names : List Named) (l 
     → m.player ≡ d.player
     → m.breaks.items ≡ d.breaks.items
     → m.out.items ≡ d.out.items ++ echo_line l.words
-    → Goes (λ start s. answered start names s l.what) m here e there
+    → Goes (λ start s. after_command start names s l.what) m here e there
     → Goes (λ start s. after_line start names s l) d here e there
 line_goes d m e here there names l player breaks text goes start moves s h =
-    goes start moves (told s (echo_line l.words))
+    goes start moves (with_text s (echo_line l.words))
     record {
       reached = stayed start moves d m here here s refl player h.reached;
       breaks = breaks ∙ h.breaks;
@@ -70,7 +70,7 @@ pub echo_on_way : (d m : Debugger) (here there : State) (l : DebugLine)
     → StaysOnWay m here there
     → StaysOnWay d here there
 echo_on_way d m here there l player breaks text way start moves s h =
-    way start moves (told s (echo_line l.words))
+    way start moves (with_text s (echo_line l.words))
     record {
       reached = stayed start moves d m here here s refl player h.reached;
       breaks = breaks ∙ h.breaks;

@@ -1,13 +1,14 @@
 -- Playing a schedule step by step, as a debugger does: each step with the changes of lines that come right before it.
-use Rattle.std.specs.Prelude.{ℕ, zero, suc, Bool, true, false, not, ◌&&◌, ◌==◌, if◌then◌else◌, bytes_eq, List, [], ◌∷◌, ◌++◌, count_by, Option, Some, None, slice_get}
+use Rattle.std.specs.Prelude.{ℕ, zero, suc, Bool, true, false, not, ◌&&◌, ◌==◌, if◌then◌else◌, bytes_eq, List, []}
+use Rattle.std.specs.Prelude.{◌∷◌, ◌++◌, count_by, Option, Some, None, slice_get}
 use Rattle.std.specs.List.{list_any}
 use Rattle.hv_word.specs.Storage.{word_at}
 use Rattle.hv_cpu.specs.Regs.{Regs}
 use Rattle.hv_map.specs.Item.{Item}
 use Rattle.hv_map.specs.Chain.{pin_of}
+use Rattle.hv_map.specs.Links.{last_block}
 use Rattle.hv_nest.specs.State.{State}
 use Rattle.hv_nest.specs.Move.{Move, StepOf, LinesOf, last_of, running_of}
-use Rattle.hv_nest.specs.Watched.{last_block}
 use Rattle.hv_debug.specs.declared.stop.Break.{Break}
 use Rattle.hv_debug.specs.declared.stop.Stop.{Stop}
 use Rattle.hv_debug.specs.declared.stop.Stop.TheVariants.{Done, AtBreak, AtEnd}
@@ -17,6 +18,7 @@ pub record Reached : Type 0 where
   pub played : List Move
   pub rest : List Move
 
+-- a move that is a step
 abbrev pub is_step : Move → Bool
 is_step (StepOf hart) = true
 is_step (LinesOf hart mask) = false
@@ -37,12 +39,13 @@ lines_before [] = []
 lines_before (StepOf hart ∷ moves) = []
 lines_before (LinesOf hart mask ∷ moves) = LinesOf hart mask ∷ lines_before moves
 
--- the moves up to the next step, with it, and those behind it
+-- the moves up to the next step, with it
 abbrev pub through_step : List Move → List Move
 through_step [] = []
 through_step (StepOf hart ∷ moves) = StepOf hart ∷ []
 through_step (LinesOf hart mask ∷ moves) = LinesOf hart mask ∷ through_step moves
 
+-- the moves behind the next step
 abbrev pub behind_step : List Move → List Move
 behind_step [] = []
 behind_step (StepOf hart ∷ moves) = moves
@@ -62,14 +65,17 @@ abbrev pub counter_in : State → ℕ → Option ℕ → ℕ
 counter_in st hart None = counter_of (slice_get st.harts hart)
 counter_in st hart (Some g) = word_at st.storage g 0
 
+-- whether a machine is there and is at this address
 abbrev pub has_counter : State → ℕ → ℕ → Option (List Item) → Bool
 has_counter st hart pc None = false
 has_counter st hart pc (Some items) = counter_in st hart (last_block items) == pc
 
 -- whether a hart runs the machine of a breakpoint, and that machine is at its address
 abbrev pub is_at : State → ℕ → Break → Bool
-is_at st hart stop = bytes_eq stop.path (running_of st hart) && has_counter st hart stop.at (pin_of st.storage stop.path)
+is_at st hart stop =
+    bytes_eq stop.path (running_of st hart) && has_counter st hart stop.at (pin_of st.storage stop.path)
 
+-- whether one of the breakpoints is there
 abbrev pub is_stopped : State → List Break → ℕ → Bool
 is_stopped st breaks hart = list_any (is_at st hart) breaks
 
@@ -93,4 +99,5 @@ step_on more start breaks first r (Some hart) =
 -- so many steps from there on, where all was played from a start
 unfoldable pub steps_from : State → List Break → Bool → ℕ → Reached → Halted
 steps_from start breaks first zero r = record { reached = r; stop = Done }
-steps_from start breaks first (suc n) r = step_on (steps_from start breaks false n) start breaks first r (next_hart r.rest)
+steps_from start breaks first (suc n) r =
+    step_on (steps_from start breaks false n) start breaks first r (next_hart r.rest)

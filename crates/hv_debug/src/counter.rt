@@ -6,7 +6,6 @@ ghost use Rattle.hv_map.specs.Chain.{pin_of};
 ghost use Rattle.hv_nest.specs.Move.{running_of};
 ghost use Rattle.hv_debug.specs.Playing.{counter_in, has_counter, is_at, is_stopped};
 
-use crate::machines::last_block;
 use crate::stop::Break;
 use hv_block::block_word;
 use hv_map::{Path, pin};
@@ -60,7 +59,7 @@ fn has_counter<N: Nested>(nested: &N, hart: u32, stop: &Break) -> bool
 {
     let store = nested.parked();
     match pin(store, &stop.path) {
-        Some(chain) => counter_in(nested, hart, last_block(store, &chain)) == stop.at,
+        Some(chain) => counter_in(nested, hart, chain.last_block()) == stop.at,
         None => false,
     }
 }

@@ -3,21 +3,22 @@
 ghost use Rattle.std.specs.Prelude.{◌≡◌, ◌<◌, ◌++◌, All, IfOk, OnOk, codes, length};
 ghost use Rattle.hv_irq.specs.Events.{IsSchedule, hart_of};
 ghost use Rattle.hv_run.specs.Record.{schedule};
-ghost use Rattle.hv_run.specs.Text.{line};
+ghost use Rattle.hv_text.specs.Text.{line};
 ghost use Rattle.hv_debug.specs.Answers.{path_named};
 ghost use Rattle.hv_debug.specs.Reaching.{CanGo, Goes, IsSession, StaysOnWay};
-ghost use Rattle.hv_debug.specs.Transcript.{after_line, answered, more_breaks, session_before, stepped};
+ghost use Rattle.hv_debug.specs.Transcript.{after_line, after_command, more_breaks, session_before, after_steps};
 
 use crate::answers::{put_at, put_echo, put_faults, put_map, put_mem, put_regs, put_running};
 use crate::cursor::Cursor;
-use crate::machines::{path_of, same_path};
+use crate::machines::path_of;
 use crate::player::Player;
 use crate::stop::Break;
 use hv_irq::Event;
 use hv_job::{DebugCommand, DebugLine, Name};
 use hv_load::Named;
 use hv_nest::Nested;
-use hv_run::{Play, put};
+use hv_run::Play;
+use hv_text::put;
 use std::alloc::{AllocError, Global};
 
 /// A debugger: how far it has played the schedule, its breakpoints, and what it has written.
@@ -81,38 +82,33 @@ impl<'a> Debugger<'a> {
     ) -> Result<(), AllocError>
         requires { CanGo (length (N.state nested.old).harts) self.old.player }
         ensures can { CanGo (length (N.state nested.new).harts) self.new.player }
-        ensures goes { OnOk result (Goes (λ start s. answered start names.now s command.now) self.old (N.state nested.old) self.new (N.state nested.new)) }
+        ensures goes { OnOk result (Goes (λ start s. after_command start names.now s command.now) self.old (N.state nested.old) self.new (N.state nested.new)) }
         ensures way { StaysOnWay self.old (N.state nested.old) (N.state nested.new) }
     {
         match command {
-            DebugCommand::Step { count } => self.step(alloc, nested, *count),
+            DebugCommand::Step { count } => self.step(nested, *count),
             DebugCommand::Break { name, at } => self.stop_at(names, name, *at),
             DebugCommand::Regs { name } => put_regs(alloc, &mut self.out, nested, names, name),
             DebugCommand::Mem { name, at } => {
                 put_mem(&mut self.out, nested.parked(), names, name, *at)
             }
-            DebugCommand::Path { hart } => put_running(alloc, &mut self.out, nested, *hart),
+            DebugCommand::Path { hart } => put_running(&mut self.out, nested, *hart),
             DebugCommand::Map { name, page } => {
-                put_map(alloc, &mut self.out, nested.parked(), names, name, *page)
+                put_map(&mut self.out, nested.parked(), names, name, *page)
             }
             DebugCommand::Faults => put_faults(alloc, &mut self.out, &self.player.play),
         }
     }
 
     // Makes steps, and writes where they ended.
-    fn step<N: Nested>(
-        &mut self,
-        alloc: Global,
-        nested: &mut N,
-        count: u32,
-    ) -> Result<(), AllocError>
+    fn step<N: Nested>(&mut self, nested: &mut N, count: u32) -> Result<(), AllocError>
         requires { CanGo (length (N.state nested.old).harts) self.old.player }
         ensures can { CanGo (length (N.state nested.new).harts) self.new.player }
-        ensures goes { OnOk result (Goes (stepped count) self.old (N.state nested.old) self.new (N.state nested.new)) }
+        ensures goes { OnOk result (Goes (after_steps count) self.old (N.state nested.old) self.new (N.state nested.new)) }
         ensures way { StaysOnWay self.old (N.state nested.old) (N.state nested.new) }
     {
         let stop = self.player.play_on(nested, &self.breaks, count);
-        put_at(alloc, &mut self.out, self.player.steps, stop)
+        put_at(&mut self.out, self.player.steps, stop)
     }
 
     // Keeps one more breakpoint, if there is such a machine.
@@ -123,7 +119,7 @@ impl<'a> Debugger<'a> {
     {
         if let Some(path) = path_of(names, name) {
             self.breaks.push(Break {
-                path: same_path(path),
+                path: path.copied(),
                 at,
             })?;
         }

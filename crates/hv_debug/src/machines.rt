@@ -1,11 +1,8 @@
 //! Machines by their names and paths.
 
-ghost use Rattle.std.specs.Prelude.{◌≡◌, ◌<◌, Some, IfSome, map};
+ghost use Rattle.std.specs.Prelude.{◌≡◌, ◌<◌, IfSome};
 ghost use Rattle.std.specs.Option.{option_and_then, option_copied};
 ghost use Rattle.hv_word.specs.Storage.{page_count};
-ghost use Rattle.hv_map.specs.Chain.{pin_of};
-ghost use Rattle.hv_map.specs.Links.{syllable_of};
-ghost use Rattle.hv_nest.specs.Watched.{last_block};
 ghost use Rattle.hv_report.specs.Dumps.{page_read};
 ghost use Rattle.hv_debug.specs.Answers.{machine_named, path_named};
 
@@ -19,12 +16,8 @@ use hv_store::Store;
 pub(crate) fn path_of<'a>(names: &'a [Named], name: &Name) -> Option<&'a Path>
     ensures { option_copied result ≡ path_named name.now names.now }
 {
-    for named in names {
-        if named.name.is(name.as_slice()) {
-            return Some(&named.path);
-        }
-    }
-    None
+    let named = names.iter().find(|named| named.name.is(name.as_slice()))?;
+    Some(&named.path)
 }
 
 /// The machines on the path to the machine of this name, as they are now.
@@ -42,29 +35,4 @@ pub(crate) fn page_of(store: &Store, names: &[Named], name: &Name, page: u32) ->
 {
     let path = path_of(names, name)?;
     read_page(store, path, page)
-}
-
-/// The bare page of the last machine's block, none for the bare machine.
-pub(crate) fn last_block(store: &Store, chain: &Chain) -> Option<u32>
-    requires { pin_of store.now (map syllable_of chain.now) ≡ Some chain.now }
-    ensures block { result ≡ last_block chain.now }
-    ensures bound { IfSome result (λ g. g < page_count store.now) }
-{
-    let len = chain.len();
-    if len == 0 {
-        None
-    } else {
-        Some(chain.item(len - 1).block)
-    }
-}
-
-/// The same path.
-pub(crate) fn same_path(path: &Path) -> Path
-    ensures { result ≡ path.now }
-{
-    let mut same = Path::new();
-    for syllable in path.as_slice() {
-        same.push(*syllable);
-    }
-    same
 }

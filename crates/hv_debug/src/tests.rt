@@ -2,7 +2,8 @@
 
 use crate::transcript;
 use hv_irq::{Event, Recording};
-use hv_job::{DebugCommand, DebugLine, Items, Job, Name};
+use hv_job::{DebugCommand, DebugLine, Job, Name};
+use hv_list::Items;
 use hv_load::{Named, Plan};
 use hv_map::Path;
 use hv_nest::{Harts, Plain};

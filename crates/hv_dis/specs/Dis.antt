@@ -25,10 +25,11 @@ hex v = codes "0x" ++ radix_digits 16 false v
 abbrev pub digit : ℕ → ℕ → List ℕ
 digit w at = radix_digits 16 false (field_of w at 4)
 
--- the upper four digits, and the lower four
+-- the upper four digits
 unfoldable pub upper_digits : ℕ → List ℕ
 upper_digits w = digit w 28 ++ digit w 24 ++ digit w 20 ++ digit w 16
 
+-- the lower four digits
 unfoldable pub lower_digits : ℕ → List ℕ
 lower_digits w = digit w 12 ++ digit w 8 ++ digit w 4 ++ digit w 0
 
@@ -36,6 +37,7 @@ lower_digits w = digit w 12 ++ digit w 8 ++ digit w 4 ++ digit w 0
 unfoldable pub word_line : ℕ → List ℕ
 word_line w = codes ".word 0x" ++ upper_digits w ++ lower_digits w
 
+-- a name, or the number where there is none
 abbrev pub named : ℕ → Option (List ℕ) → List ℕ
 named n (Some name) = name
 named n None = hex n
@@ -111,6 +113,7 @@ says_all _ w = true
 unfoldable pub instr_line : Instr → List ℕ
 instr_line i = name_of i.op ++ operands (row_of i.op) i
 
+-- the line of a word from what it decodes to
 abbrev pub line_of : ℕ → Option Instr → List ℕ
 line_of w (Some i) = if says_all i.op w then instr_line i else word_line w
 line_of w None = word_line w

@@ -228,7 +228,7 @@ mod tests {
 
     // Words as GNU as makes them, and their lines.
     #[test]
-    fn writes_lines(rt: HostRuntime) -> Result<(), Fail> {
+    fn writes_instructions_as_lines(rt: HostRuntime) -> Result<(), Fail> {
         let rows = [
             (0x000012b7, "lui x5, 0x1"),
             (0x00028293, "addi x5, x5, 0"),
@@ -256,7 +256,7 @@ mod tests {
 
     // No instruction, and fences with other fields.
     #[test]
-    fn writes_words(rt: HostRuntime) -> Result<(), Fail> {
+    fn writes_other_words_in_hex(rt: HostRuntime) -> Result<(), Fail> {
         let rows = [
             (0x0ff0000f, "fence"),
             (0x0330000f, ".word 0x0330000f"),

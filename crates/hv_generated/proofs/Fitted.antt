@@ -1,6 +1,7 @@
 -- A whole tower that fits, with the name of its top, is built.
 use Rattle.std.proofs.Common.{◌≡◌, ℕ, zero, suc, ◌+◌, ◌*◌, ◌<◌, ◌≤◌, true, List, [], length, codes, Ok, Result, refl, ap, ◌∙◌, sym, arith, get_or}
 use Rattle.std.specs.Result.{is_ok}
+use Rattle.hv_limits.specs.Limits.{depth_limit, pages_limit}
 use Rattle.hv_store.specs.Zeros.{zeros}
 use Rattle.hv_store.proofs.Identity.{length-zeros}
 use Rattle.hv_samples.specs.declared.choice.Sample.TheVariants.{Pass}
@@ -63,7 +64,7 @@ pub record Tower (P depth top : ℕ) (built : Result Building BuildKind) : Type 
   pub free : (g : ℕ) → end_base 0 ns ≤ g → g < P → free_at after.marks g ≡ true
   pub watches : after.watches ≡ []
 
-pub tower : (P line depth top : ℕ) → P ≤ 16384 → depth ≤ 8 → 1 ≤ top → grown depth top ≤ P → Tower P depth top (towered_of (nothing_built P 1) line depth top Pass)
+pub tower : (P line depth top : ℕ) → P ≤ pages_limit → depth ≤ depth_limit → 1 ≤ top → grown depth top ≤ P → Tower P depth top (towered_of (nothing_built P 1) line depth top Pass)
 unfolding end_size
 tower P line depth top few short some fits =
     named_top (reach P line top few some depth 0 (nothing_built P 1) [] refl (omega (arith, short)) fits (at_first P))

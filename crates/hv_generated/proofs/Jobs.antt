@@ -4,6 +4,7 @@ use Rattle.std.specs.Prelude.{nat_lt}
 use Rattle.std.specs.List.{range_with_len}
 use Rattle.std.specs.Result.{is_ok}
 use Rattle.std.proofs.lemmas.Bool.{le-leb, le-ltb, lt-ltb}
+use Rattle.hv_limits.specs.Limits.{pages_limit}
 use Rattle.hv_word.specs.Storage.{page_count}
 use Rattle.hv_irq.specs.declared.Event.{Event}
 use Rattle.hv_job.specs.declared.job.Placed.{Placed}
@@ -16,7 +17,7 @@ use Rattle.hv_load.specs.declared.start.Start.{Start}
 use Rattle.hv_load.specs.Building.{◌>>=◌, Building, known, nothing_built}
 use Rattle.hv_load.specs.Build.{and_then, at_line, build_of, built_from, can_watch, done_of, ended, start_of, towered_of, unless_fault, watch_fault}
 use Rattle.hv_load.specs.Directives.{image_of, is_shared, watch_in, watch_of}
-use Rattle.hv_load.specs.Generator.{gen_job_of, job_with, kernel_line, kernel_of, schedule_of, tower_line, turn_line, turn_lines, watch_line}
+use Rattle.hv_load.specs.Generator.{depths, gen_job_of, job_with, kernel_line, kernel_of, schedule_of, tower_line, turn_line, turn_lines, watch_line}
 use Rattle.hv_load.specs.Tower.{grown}
 use Rattle.hv_load.proofs.Generated.{length-kernel_of}
 use Rattle.hv_towers.specs.Laid.{from_base}
@@ -42,7 +43,7 @@ turns_done b one a (suc n) rest =
     ∙ turns_done b one (a + 1) n rest
 
 -- the map of the top
-top_map : (P : ℕ) (ns : List ℕ) (b : Building) → P ≤ 16384 → (s : Stands P ns b) → map_of b.storage s.top.path ≡ Some (from_base (end_base 0 ns) (end_size P ns))
+top_map : (P : ℕ) (ns : List ℕ) (b : Building) → P ≤ pages_limit → (s : Stands P ns b) → map_of b.storage s.top.path ≡ Some (from_base (end_base 0 ns) (end_size P ns))
 top_map P ns b few s =
     let pages : page_count b.storage ≡ P = omega (arith, s.size) in
     ap (map_of b.storage) s.path ∙ map_of_is b.storage P ns pages few s.storeys
@@ -53,7 +54,7 @@ not_shared zero harts one = le-ltb 1 harts (omega (arith, one))
 not_shared (suc depth) harts one = refl
 
 -- the watch of the top, which is the only one and can be
-module _ (P : ℕ) (ns : List ℕ) (b : Building) (few : P ≤ 16384) (s : Stands P ns b) (room : end_base 0 ns + end_size P ns ≤ P) (none : b.watches ≡ []) (line : ℕ) where
+module _ (P : ℕ) (ns : List ℕ) (b : Building) (few : P ≤ pages_limit) (s : Stands P ns b) (room : end_base 0 ns + end_size P ns ≤ P) (none : b.watches ≡ []) (line : ℕ) where
   abbrev watched : Building
   watched = record b { watches = b.watches ++ record { line = line; watch = record { hart = 0; path = s.top.path } } ∷ [] }
 
@@ -72,8 +73,8 @@ module _ (P : ℕ) (ns : List ℕ) (b : Building) (few : P ≤ 16384) (s : Stand
   watchable =
       let pages : length (from_base (end_base 0 ns) (end_size P ns)) ≡ end_size P ns = length-base (end_base 0 ns) (end_size P ns) in
       let fits : end_base 0 ns + end_size P ns ≤ P = room in
-      let limit : P ≤ 16384 = few in
-      ap can_watch (top_map P ns b few s) ∙ le-leb (length (from_base (end_base 0 ns) (end_size P ns))) 16384 (omega (arith, pages, fits, limit))
+      let limit : P ≤ pages_limit = few in
+      ap can_watch (top_map P ns b few s) ∙ le-leb (length (from_base (end_base 0 ns) (end_size P ns))) pages_limit (omega (arith, pages, fits, limit))
 
   no_fault : watch_fault b.storage watched.watches ≡ None
   no_fault =
@@ -93,20 +94,20 @@ last_some P top zero large some = large
 last_some P top (suc depth) large some = some
 
 -- eight machines around 4 pages have 28
-grown_small : (levels : ℕ) → levels ≤ 8 → grown levels 4 ≤ 4 + 3 * levels
+grown_small : (levels : ℕ) → levels < depths → grown levels 4 ≤ 4 + 3 * levels
 grown_small zero few = omega arith
 grown_small (suc levels) few = one_more (grown levels 4) levels (omega (arith, few)) (grown_small levels (omega (arith, few)))
   where
     one_more : (g l : ℕ) → l ≤ 7 → g ≤ 4 + 3 * l → g + 2 + table_pages g ≤ 4 + 3 * suc l
     one_more g l few small = omega (arith, few, small)
 
-job_built : (depth : ℕ) (kernel : List ℕ) (schedule : List Event) → depth ≤ 8 → length kernel ≤ 1024 → (start : Start) × (build_of (job_with depth kernel schedule) ≡ Ok start)
+job_built : (depth : ℕ) (kernel : List ℕ) (schedule : List Event) → depth < depths → length kernel ≤ 1024 → (start : Start) × (build_of (job_with depth kernel schedule) ≡ Ok start)
 unfolding build_of turn_lines
 job_built depth kernel schedule short few =
     filled (image_written t.after t.stands.top (end_base 0 t.ns) (end_size 28 t.ns) (top_map 28 t.ns t.after (omega arith) t.stands) t.pages (codes "top") kernel t.stands.is_known few some (t.free (end_base 0 t.ns) (omega arith) (omega (arith, some, t.room))))
   where
     t : Tower 28 depth 4 (towered_of (nothing_built 28 1) 3 depth 4 Pass)
-    t = tower 28 3 depth 4 (omega arith) short (omega arith) (omega (arith, grown_small depth short, short))
+    t = tower 28 3 depth 4 (omega arith) (omega (arith, short)) (omega arith) (omega (arith, grown_small depth short, short))
 
     some : 0 < end_size 28 t.ns
     some = let large : 1 ≤ last_size 28 4 depth = last_some 28 4 depth (omega arith) (omega arith) in omega (arith, t.size, large)
@@ -129,4 +130,4 @@ pub jobs_built : GeneratedBuildLaw
 unfolding gen_job_of
 jobs_built number =
     ap is_ok
-    (job_built (number % 9) (kernel_of (number / 9)) (schedule_of (number % 9)) (omega arith) (omega (arith, length-kernel_of (number / 9)))).1
+    (job_built (number % depths) (kernel_of (number / depths)) (schedule_of (number % depths)) (omega arith) (omega (arith, length-kernel_of (number / depths)))).1

@@ -3,6 +3,7 @@ use Rattle.std.proofs.Common.{◌≡◌, ℕ, zero, suc, ◌+◌, ◌*◌, ◌<�
 use Rattle.std.specs.Str.{bytes_eq}
 use Rattle.std.proofs.lemmas.Bool.{ne_eqb}
 use Rattle.std.proofs.lemmas.List.{length-replicate}
+use Rattle.hv_limits.specs.Limits.{depth_limit, pages_limit}
 use Rattle.hv_word.specs.Storage.{page_count}
 use Rattle.hv_map.specs.Apart.{table_pages}
 use Rattle.hv_map.specs.Chain.{map_of}
@@ -37,7 +38,7 @@ names_differ n k lt = ap (λ (b : Bool). b && true) (ne_eqb (49 + n) (49 + k) (�
 pass_length : length (sample_words Pass) ≡ 4
 pass_length = ap (λ (r : Result (List ℕ) _). length (words_if r)) pass_words
 
-module _ (P line m : ℕ) (few : P ≤ 16384) (some : 1 ≤ m) (b : Building) (ms : List ℕ) (f : Fresh P b ms) (short : length ms < 8) (fits : 2 + table_pages m + m ≤ end_size P ms) where
+module _ (P line m : ℕ) (few : P ≤ pages_limit) (some : 1 ≤ m) (b : Building) (ms : List ℕ) (f : Fresh P b ms) (short : length ms < depth_limit) (fits : 2 + table_pages m + m ≤ end_size P ms) where
   -- after the machine
   abbrev made : Building
   made = machine_at b (level_name (suc (length ms))) f.raised.last m (end_base 0 ms)
@@ -60,7 +61,7 @@ module _ (P line m : ℕ) (few : P ≤ 16384) (some : 1 ≤ m) (b : Building) (m
   machine_is : machine_of b (level_name (suc (length ms))) (level_name (length ms)) 1 m 2 (2 + table_pages m) ≡ Ok made
   machine_is =
       let machines : b.machines ≡ length ms = f.machines in
-      let count : length ms < 8 = short in
+      let count : length ms < depth_limit = short in
       let room : end_base 0 ms + end_size P ms ≤ P = f.raised.room in
       let path : length f.raised.last.path ≡ length ms = ap length f.raised.path ∙ length-replicate (length ms) 1 in
       machine_made b f.raised.last (end_base 0 ms) (end_size P ms) first_map f.raised.pages (level_name (suc (length ms))) (level_name (length ms)) m f.raised.is_known (omega (arith, machines, count)) (omega (arith, path, count)) (f.unused (length ms) (omega arith)) some fits (λ g low high. f.free g (omega (arith, low)) (omega (arith, high, room)))
@@ -143,7 +144,7 @@ one_more P line top levels k b d ms e go_on rest = record {
   size = rest.size ∙ ap (λ (s : ℕ). last_size s top levels) (size_push P ms (grown levels top)) ∙ last_grown levels top;
 }
 
-pub reach : (P line top : ℕ) → P ≤ 16384 → 1 ≤ top → (levels k : ℕ) (b : Building) (ms : List ℕ) → k ≡ length ms → length ms + levels ≤ 8 → grown levels top ≤ end_size P ms → Fresh P b ms → Reached P top levels ms (parts_of b (levels_from line top Pass k levels))
+pub reach : (P line top : ℕ) → P ≤ pages_limit → 1 ≤ top → (levels k : ℕ) (b : Building) (ms : List ℕ) → k ≡ length ms → length ms + levels ≤ depth_limit → grown levels top ≤ end_size P ms → Fresh P b ms → Reached P top levels ms (parts_of b (levels_from line top Pass k levels))
 unfolding last_size
 reach P line top few some zero k b ms e short fits f = record {
   after = b;

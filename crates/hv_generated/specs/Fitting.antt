@@ -1,18 +1,19 @@
 -- What is always built: a tower that fits the storage, and the job of a number.
 use Rattle.std.specs.Prelude.{ℕ, ◌≤◌, IsOk}
+use Rattle.hv_limits.specs.Limits.{depth_limit, pages_limit}
 use Rattle.hv_samples.specs.declared.choice.Sample.TheVariants.{Pass}
 use Rattle.hv_load.specs.Build.{build_of, towered_of}
 use Rattle.hv_load.specs.Building.{nothing_built}
 use Rattle.hv_load.specs.Generator.{gen_job_of}
 use Rattle.hv_load.specs.Tower.{grown}
 
--- A tower of at most eight machines is built wherever the storage has the pages that it needs: those of the machine at the
+-- A tower that isn't too deep is built wherever the storage has the pages that it needs: those of the machine at the
 -- top, grown once for each machine.
 abbrev pub TowerFitLaw : Type 0
 TowerFitLaw =
     (pages line depth top : ℕ)
-    → pages ≤ 16384
-    → depth ≤ 8
+    → pages ≤ pages_limit
+    → depth ≤ depth_limit
     → 1 ≤ top
     → grown depth top ≤ pages
     → IsOk (towered_of (nothing_built pages 1) line depth top Pass)

@@ -1,12 +1,13 @@
 -- The commands of the debugger and their forms.
 use Rattle.std.proofs.Common.{◌≡◌, ℕ, List, [], ◌∷◌, codes, Result, Ok, Err, refl, ap, ◌∙◌, arith}
-use Rattle.hv_job.specs.Asked.{address, between, hart, named, number, page}
-use Rattle.hv_job.specs.Commands.{break_of, called, command_of, faults_of, map_of, mem_of, path_of, regs_of, step_of}
-use Rattle.hv_job.specs.declared.ends.JobKind.{JobKind}
-use Rattle.hv_job.specs.declared.ends.JobKind.TheVariants as fault
-use Rattle.hv_job.specs.declared.job.DebugCommand.{DebugCommand}
-use Rattle.hv_job.specs.declared.job.DebugCommand.TheVariants as command
-use Rattle.hv_job.proofs.Ranging.{then_ok}
+use Rattle.hv_limits.specs.Limits.{steps_limit}
+use Rattle.hv_line.specs.Statements.{address, between, hart, named, number, page}
+use Rattle.hv_line.specs.Commands.{break_command_of, command_with, command_of, faults_command_of, map_command_of, mem_command_of, path_command_of, regs_command_of, step_command_of}
+use Rattle.hv_line.specs.declared.kinds.JobKind.{JobKind}
+use Rattle.hv_line.specs.declared.kinds.JobKind.TheVariants as fault
+use Rattle.hv_line.specs.declared.types.DebugCommand.{DebugCommand}
+use Rattle.hv_line.specs.declared.types.DebugCommand.TheVariants as command
+use Rattle.hv_line.proofs.Ranging.{then_ok}
 use Rattle.hv_grammar.specs.Forms.{AreWords, Call, CommandFormLaw, IsCall, IsCallInRange, StepCall, BreakCall, RegsCall, MemCall, PathCall, MapCall, FaultsCall, call_words, calls_for}
 use Rattle.hv_grammar.proofs.Tests.{address_is, address_says, are_length, between_is, between_says, first_or, hart_is, hart_says, named_is, named_says, number_is, number_says, page_is, page_says, then_is}
 
@@ -17,32 +18,32 @@ told : (x y : DebugCommand) → (let r : Result DebugCommand JobKind = Ok x in r
 told x y is = cc
 
 step_is : (n : ℕ) (words : List (List ℕ)) → IsCallInRange (StepCall n) → AreWords (call_words (StepCall n)) words → command_of words ≡ Ok (command.Step n)
-unfolding command_of called step_of
+unfolding command_of command_with step_command_of
 step_is n (w0 ∷ w1 ∷ []) range are =
-    ap (λ w. called w (w1 ∷ [])) are.0 ∙
-    then_is _ _ n _ (between_is 1 1000000000 w1 n are.1.0 range.0 range.1)
+    ap (λ w. command_with w (w1 ∷ [])) are.0 ∙
+    then_is _ _ n _ (between_is 1 steps_limit w1 n are.1.0 range.0 range.1)
     refl
 step_is n words range are = absurd (omega (arith, are_length (call_words (StepCall n)) words are))
 
-step_called : (w0 : List ℕ) (words : List (List ℕ)) (what : DebugCommand) → w0 ≡ codes "step" → step_of words ≡ Ok what → IsCall (w0 ∷ words) what
-unfolding step_of
+step_called : (w0 : List ℕ) (words : List (List ℕ)) (what : DebugCommand) → w0 ≡ codes "step" → step_command_of words ≡ Ok what → IsCall (w0 ∷ words) what
+unfolding step_command_of
 step_called w0 (w1 ∷ []) what first is =
-    let s1 = then_ok (between 1 1000000000 w1) _ what is in
-    let f1 = between_says 1 1000000000 w1 s1.0 s1.1 in
+    let s1 = then_ok (between 1 steps_limit w1) _ what is in
+    let f1 = between_says 1 steps_limit w1 s1.0 s1.1 in
     record { call = StepCall s1.0; range = (f1.1, f1.2); written = (first, (f1.0, tt)); calls = told (command.Step s1.0) what s1.2 }
 step_called w0 _ what first is = refused _ what is
 
 break_is : (name : List ℕ) (a : ℕ) (words : List (List ℕ)) → IsCallInRange (BreakCall name a) → AreWords (call_words (BreakCall name a)) words → command_of words ≡ Ok (command.Break name a)
-unfolding command_of called break_of
+unfolding command_of command_with break_command_of
 break_is name a (w0 ∷ w1 ∷ w2 ∷ []) range are =
-    ap (λ w. called w (w1 ∷ w2 ∷ [])) are.0 ∙
+    ap (λ w. command_with w (w1 ∷ w2 ∷ [])) are.0 ∙
     then_is _ _ name _ (named_is w1 name are.1.0.0 are.1.0.1)
     (then_is _ _ a _ (number_is w2 a are.1.1.0)
     refl)
 break_is name a words range are = absurd (omega (arith, are_length (call_words (BreakCall name a)) words are))
 
-break_called : (w0 : List ℕ) (words : List (List ℕ)) (what : DebugCommand) → w0 ≡ codes "break" → break_of words ≡ Ok what → IsCall (w0 ∷ words) what
-unfolding break_of
+break_called : (w0 : List ℕ) (words : List (List ℕ)) (what : DebugCommand) → w0 ≡ codes "break" → break_command_of words ≡ Ok what → IsCall (w0 ∷ words) what
+unfolding break_command_of
 break_called w0 (w1 ∷ w2 ∷ []) what first is =
     let s1 = then_ok (named w1) _ what is in
     let f1 = named_says w1 s1.0 s1.1 in
@@ -52,15 +53,15 @@ break_called w0 (w1 ∷ w2 ∷ []) what first is =
 break_called w0 _ what first is = refused _ what is
 
 regs_is : (name : List ℕ) (words : List (List ℕ)) → IsCallInRange (RegsCall name) → AreWords (call_words (RegsCall name)) words → command_of words ≡ Ok (command.Regs name)
-unfolding command_of called regs_of
+unfolding command_of command_with regs_command_of
 regs_is name (w0 ∷ w1 ∷ []) range are =
-    ap (λ w. called w (w1 ∷ [])) are.0 ∙
+    ap (λ w. command_with w (w1 ∷ [])) are.0 ∙
     then_is _ _ name _ (named_is w1 name are.1.0.0 are.1.0.1)
     refl
 regs_is name words range are = absurd (omega (arith, are_length (call_words (RegsCall name)) words are))
 
-regs_called : (w0 : List ℕ) (words : List (List ℕ)) (what : DebugCommand) → w0 ≡ codes "regs" → regs_of words ≡ Ok what → IsCall (w0 ∷ words) what
-unfolding regs_of
+regs_called : (w0 : List ℕ) (words : List (List ℕ)) (what : DebugCommand) → w0 ≡ codes "regs" → regs_command_of words ≡ Ok what → IsCall (w0 ∷ words) what
+unfolding regs_command_of
 regs_called w0 (w1 ∷ []) what first is =
     let s1 = then_ok (named w1) _ what is in
     let f1 = named_says w1 s1.0 s1.1 in
@@ -68,16 +69,16 @@ regs_called w0 (w1 ∷ []) what first is =
 regs_called w0 _ what first is = refused _ what is
 
 mem_is : (name : List ℕ) (a : ℕ) (words : List (List ℕ)) → IsCallInRange (MemCall name a) → AreWords (call_words (MemCall name a)) words → command_of words ≡ Ok (command.Mem name a)
-unfolding command_of called mem_of
+unfolding command_of command_with mem_command_of
 mem_is name a (w0 ∷ w1 ∷ w2 ∷ []) range are =
-    ap (λ w. called w (w1 ∷ w2 ∷ [])) are.0 ∙
+    ap (λ w. command_with w (w1 ∷ w2 ∷ [])) are.0 ∙
     then_is _ _ name _ (named_is w1 name are.1.0.0 are.1.0.1)
     (then_is _ _ a _ (address_is w2 a are.1.1.0 range)
     refl)
 mem_is name a words range are = absurd (omega (arith, are_length (call_words (MemCall name a)) words are))
 
-mem_called : (w0 : List ℕ) (words : List (List ℕ)) (what : DebugCommand) → w0 ≡ codes "mem" → mem_of words ≡ Ok what → IsCall (w0 ∷ words) what
-unfolding mem_of
+mem_called : (w0 : List ℕ) (words : List (List ℕ)) (what : DebugCommand) → w0 ≡ codes "mem" → mem_command_of words ≡ Ok what → IsCall (w0 ∷ words) what
+unfolding mem_command_of
 mem_called w0 (w1 ∷ w2 ∷ []) what first is =
     let s1 = then_ok (named w1) _ what is in
     let f1 = named_says w1 s1.0 s1.1 in
@@ -87,15 +88,15 @@ mem_called w0 (w1 ∷ w2 ∷ []) what first is =
 mem_called w0 _ what first is = refused _ what is
 
 path_is : (h : ℕ) (words : List (List ℕ)) → IsCallInRange (PathCall h) → AreWords (call_words (PathCall h)) words → command_of words ≡ Ok (command.Path h)
-unfolding command_of called path_of
+unfolding command_of command_with path_command_of
 path_is h (w0 ∷ w1 ∷ []) range are =
-    ap (λ w. called w (w1 ∷ [])) are.0 ∙
+    ap (λ w. command_with w (w1 ∷ [])) are.0 ∙
     then_is _ _ h _ (hart_is w1 h are.1.0 range)
     refl
 path_is h words range are = absurd (omega (arith, are_length (call_words (PathCall h)) words are))
 
-path_called : (w0 : List ℕ) (words : List (List ℕ)) (what : DebugCommand) → w0 ≡ codes "path" → path_of words ≡ Ok what → IsCall (w0 ∷ words) what
-unfolding path_of
+path_called : (w0 : List ℕ) (words : List (List ℕ)) (what : DebugCommand) → w0 ≡ codes "path" → path_command_of words ≡ Ok what → IsCall (w0 ∷ words) what
+unfolding path_command_of
 path_called w0 (w1 ∷ []) what first is =
     let s1 = then_ok (hart w1) _ what is in
     let f1 = hart_says w1 s1.0 s1.1 in
@@ -103,16 +104,16 @@ path_called w0 (w1 ∷ []) what first is =
 path_called w0 _ what first is = refused _ what is
 
 map_is : (name : List ℕ) (i : ℕ) (words : List (List ℕ)) → IsCallInRange (MapCall name i) → AreWords (call_words (MapCall name i)) words → command_of words ≡ Ok (command.Map name i)
-unfolding command_of called map_of
+unfolding command_of command_with map_command_of
 map_is name i (w0 ∷ w1 ∷ w2 ∷ []) range are =
-    ap (λ w. called w (w1 ∷ w2 ∷ [])) are.0 ∙
+    ap (λ w. command_with w (w1 ∷ w2 ∷ [])) are.0 ∙
     then_is _ _ name _ (named_is w1 name are.1.0.0 are.1.0.1)
     (then_is _ _ i _ (page_is w2 i are.1.1.0 range)
     refl)
 map_is name i words range are = absurd (omega (arith, are_length (call_words (MapCall name i)) words are))
 
-map_called : (w0 : List ℕ) (words : List (List ℕ)) (what : DebugCommand) → w0 ≡ codes "map" → map_of words ≡ Ok what → IsCall (w0 ∷ words) what
-unfolding map_of
+map_called : (w0 : List ℕ) (words : List (List ℕ)) (what : DebugCommand) → w0 ≡ codes "map" → map_command_of words ≡ Ok what → IsCall (w0 ∷ words) what
+unfolding map_command_of
 map_called w0 (w1 ∷ w2 ∷ []) what first is =
     let s1 = then_ok (named w1) _ what is in
     let f1 = named_says w1 s1.0 s1.1 in
@@ -122,14 +123,14 @@ map_called w0 (w1 ∷ w2 ∷ []) what first is =
 map_called w0 _ what first is = refused _ what is
 
 faults_is : (words : List (List ℕ)) → IsCallInRange (FaultsCall) → AreWords (call_words (FaultsCall)) words → command_of words ≡ Ok (command.Faults)
-unfolding command_of called faults_of
+unfolding command_of command_with faults_command_of
 faults_is (w0 ∷ []) range are =
-    ap (λ w. called w ([])) are.0 ∙
+    ap (λ w. command_with w ([])) are.0 ∙
     refl
 faults_is words range are = absurd (omega (arith, are_length (call_words (FaultsCall)) words are))
 
-faults_called : (w0 : List ℕ) (words : List (List ℕ)) (what : DebugCommand) → w0 ≡ codes "faults" → faults_of words ≡ Ok what → IsCall (w0 ∷ words) what
-unfolding faults_of
+faults_called : (w0 : List ℕ) (words : List (List ℕ)) (what : DebugCommand) → w0 ≡ codes "faults" → faults_command_of words ≡ Ok what → IsCall (w0 ∷ words) what
+unfolding faults_command_of
 faults_called w0 ([]) what first is =
     record { call = FaultsCall; range = tt; written = (first, tt); calls = told (command.Faults) what is }
 faults_called w0 _ what first is = refused _ what is
@@ -143,16 +144,16 @@ call_is (PathCall h) words range are = path_is h words range are
 call_is (MapCall name i) words range are = map_is name i words range are
 call_is FaultsCall words range are = faults_is words range are
 
-called_is : (first : List ℕ) (words : List (List ℕ)) (what : DebugCommand) → called first words ≡ Ok what → IsCall (first ∷ words) what
-unfolding called
+called_is : (first : List ℕ) (words : List (List ℕ)) (what : DebugCommand) → command_with first words ≡ Ok what → IsCall (first ∷ words) what
+unfolding command_with
 called_is first words what is =
-    first_or _ first (codes "step") (step_of words) _ what (step_called first words what) (
-    first_or _ first (codes "break") (break_of words) _ what (break_called first words what) (
-    first_or _ first (codes "regs") (regs_of words) _ what (regs_called first words what) (
-    first_or _ first (codes "mem") (mem_of words) _ what (mem_called first words what) (
-    first_or _ first (codes "path") (path_of words) _ what (path_called first words what) (
-    first_or _ first (codes "map") (map_of words) _ what (map_called first words what) (
-    first_or _ first (codes "faults") (faults_of words) _ what (faults_called first words what) (
+    first_or _ first (codes "step") (step_command_of words) _ what (step_called first words what) (
+    first_or _ first (codes "break") (break_command_of words) _ what (break_called first words what) (
+    first_or _ first (codes "regs") (regs_command_of words) _ what (regs_called first words what) (
+    first_or _ first (codes "mem") (mem_command_of words) _ what (mem_called first words what) (
+    first_or _ first (codes "path") (path_command_of words) _ what (path_called first words what) (
+    first_or _ first (codes "map") (map_command_of words) _ what (map_called first words what) (
+    first_or _ first (codes "faults") (faults_command_of words) _ what (faults_called first words what) (
     refused fault.Directive what))))))) is
 
 pub words_call : (words : List (List ℕ)) (what : DebugCommand) → command_of words ≡ Ok what → IsCall words what

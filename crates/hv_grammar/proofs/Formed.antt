@@ -1,41 +1,35 @@
 -- Words that ask for something are those of a form.
-use Rattle.std.proofs.Common.{◌≡◌, ℕ, ◌≤◌, ◌&&◌, nat_le, Bool, true, false, cond, codes, List, [], ◌∷◌, length, map, Result, Ok, Err, inl, inr, refl, ◌∙◌, arith}
-use Rattle.std.specs.Result.{is_ok}
+use Rattle.std.proofs.Common.{◌≡◌, ℕ, ◌≤◌, ◌&&◌, nat_le, Bool, true, false, cond, codes, List, [], ◌∷◌, length, map, Result, Ok, Err, inl, inr, refl, sym, ap, ◌∙◌, arith}
 use Rattle.std.proofs.lemmas.Bool.{leb-true}
 use Rattle.std.proofs.lemmas.List.{length-map}
-use Rattle.hv_job.specs.Asked.{access, address, any_sample, asked_of, between, directive_of, dump_of, fixed, hart, hart_of, harts_of, image_of, inner, later_page, lines_of, machine_of, map_of, mask, named, numbers, page, sample_of, start_of, storage_of, tower_of, turn_of, watch_of, word_of, word_with}
-use Rattle.hv_job.specs.declared.ends.JobKind.{JobKind}
-use Rattle.hv_job.specs.declared.ends.JobKind.TheVariants as fault
-use Rattle.hv_job.proofs.Ranging.{then_ok}
-use Rattle.hv_grammar.specs.Forms.{Form, IsLine, LineFormLaw, Storage, Harts, Hart, Machine, MapNone, MapRead, MapWrite, Start, Image, Sampled, Words, Tower, TowerOf, Turn, Lines, Watch, Dump, Spelt}
-use Rattle.hv_grammar.proofs.Means.{Asked, form_means}
+use Rattle.hv_limits.specs.Limits.{pages_limit, steps_limit}
+use Rattle.hv_line.specs.JobLimits.{job_depth, job_harts, job_values}
+use Rattle.hv_line.specs.Statements.{access, address, any_sample, statement_of, between, statement_with, dump_directive_of, fixed, hart, hart_directive_of, harts_directive_of, image_directive_of, inner, later_page, lines_directive_of, machine_directive_of, map_directive_of, mask, named, numbers, page, sample_directive_of, start_directive_of, storage_line_of, storage_pages, storage_with, tower_directive_of, turn_directive_of, watch_directive_of, word_directive_of, word_with}
+use Rattle.hv_line.specs.declared.kinds.JobKind.{JobKind}
+use Rattle.hv_line.specs.declared.kinds.JobKind.TheVariants as fault
+use Rattle.hv_line.specs.declared.types.Statement.{Statement}
+use Rattle.hv_line.proofs.Ranging.{then_ok}
+use Rattle.hv_grammar.specs.Forms.{Form, IsLine, IsStorageLine, LineFormLaw, StorageFormLaw, Harts, Hart, Machine, MapNone, MapRead, MapWrite, Start, Image, Sampled, Words, Tower, TowerOf, Turn, Lines, Watch, Dump, Spelt}
+use Rattle.hv_grammar.proofs.Means.{form_means, storage_means}
 use Rattle.hv_grammar.proofs.Tests.{access_says, address_says, any_says, are_length, between_says, both, first_or, fixed_says, hart_says, inner_says, later_says, mask_says, named_says, numbers_say, page_says}
 
 -- the words are of some form
 abbrev pub Formed : List (List ℕ) → Type 0
 Formed words = (form : Form) × IsLine words form
 
-refused : {G : Type 0} (kind : JobKind) (asked : Asked) → (let r : Result Asked JobKind = Err kind in r) ≡ Ok asked → G
+refused : {G : Type 0} (kind : JobKind) (asked : Statement) → (let r : Result Statement JobKind = Err kind in r) ≡ Ok asked → G
 refused kind asked is = cc
 
-storage_formed : (w0 : List ℕ) (words : List (List ℕ)) (asked : Asked) → w0 ≡ codes "storage" → storage_of words ≡ Ok asked → Formed (w0 ∷ words)
-unfolding storage_of
-storage_formed w0 (w1 ∷ []) asked first is =
-    let s1 = then_ok (between 1 16384 w1) _ asked is in
-    let f1 = between_says 1 16384 w1 s1.0 s1.1 in
-    (Storage s1.0, record { range = (f1.1, f1.2); written = (first, (f1.0, tt)) })
-storage_formed w0 _ asked first is = refused _ asked is
-
-harts_formed : (w0 : List ℕ) (words : List (List ℕ)) (asked : Asked) → w0 ≡ codes "harts" → harts_of words ≡ Ok asked → Formed (w0 ∷ words)
-unfolding harts_of
+harts_formed : (w0 : List ℕ) (words : List (List ℕ)) (asked : Statement) → w0 ≡ codes "harts" → harts_directive_of words ≡ Ok asked → Formed (w0 ∷ words)
+unfolding harts_directive_of
 harts_formed w0 (w1 ∷ []) asked first is =
-    let s1 = then_ok (between 1 4 w1) _ asked is in
-    let f1 = between_says 1 4 w1 s1.0 s1.1 in
+    let s1 = then_ok (between 1 job_harts w1) _ asked is in
+    let f1 = between_says 1 job_harts w1 s1.0 s1.1 in
     (Harts s1.0, record { range = (f1.1, f1.2); written = (first, (f1.0, tt)) })
 harts_formed w0 _ asked first is = refused _ asked is
 
-hart_formed : (w0 : List ℕ) (words : List (List ℕ)) (asked : Asked) → w0 ≡ codes "hart" → hart_of words ≡ Ok asked → Formed (w0 ∷ words)
-unfolding hart_of
+hart_formed : (w0 : List ℕ) (words : List (List ℕ)) (asked : Statement) → w0 ≡ codes "hart" → hart_directive_of words ≡ Ok asked → Formed (w0 ∷ words)
+unfolding hart_directive_of
 hart_formed w0 (w1 ∷ w2 ∷ []) asked first is =
     let s1 = then_ok (hart w1) _ asked is in
     let f1 = hart_says w1 s1.0 s1.1 in
@@ -44,8 +38,8 @@ hart_formed w0 (w1 ∷ w2 ∷ []) asked first is =
     (Hart s1.0 s2.0, record { range = (f1.1, f2.1); written = (first, (f1.0, (f2.0, tt))) })
 hart_formed w0 _ asked first is = refused _ asked is
 
-machine_formed : (w0 : List ℕ) (words : List (List ℕ)) (asked : Asked) → w0 ≡ codes "machine" → machine_of words ≡ Ok asked → Formed (w0 ∷ words)
-unfolding machine_of
+machine_formed : (w0 : List ℕ) (words : List (List ℕ)) (asked : Statement) → w0 ≡ codes "machine" → machine_directive_of words ≡ Ok asked → Formed (w0 ∷ words)
+unfolding machine_directive_of
 machine_formed w0 (w1 ∷ w2 ∷ w3 ∷ w4 ∷ w5 ∷ w6 ∷ w7 ∷ w8 ∷ w9 ∷ w10 ∷ w11 ∷ []) asked first is =
     let s1 = then_ok (named w1) _ asked is in
     let f1 = named_says w1 s1.0 s1.1 in
@@ -59,8 +53,8 @@ machine_formed w0 (w1 ∷ w2 ∷ w3 ∷ w4 ∷ w5 ∷ w6 ∷ w7 ∷ w8 ∷ w9 �
     let f5 = later_says w5 s5.0 s5.1 in
     let s6 = then_ok (fixed (codes "pages") w6) _ asked s5.2 in
     let f6 = fixed_says (codes "pages") w6 s6.0 s6.1 in
-    let s7 = then_ok (between 1 16384 w7) _ asked s6.2 in
-    let f7 = between_says 1 16384 w7 s7.0 s7.1 in
+    let s7 = then_ok (between 1 pages_limit w7) _ asked s6.2 in
+    let f7 = between_says 1 pages_limit w7 s7.0 s7.1 in
     let s8 = then_ok (fixed (codes "table") w8) _ asked s7.2 in
     let f8 = fixed_says (codes "table") w8 s8.0 s8.1 in
     let s9 = then_ok (page w9) _ asked s8.2 in
@@ -72,8 +66,8 @@ machine_formed w0 (w1 ∷ w2 ∷ w3 ∷ w4 ∷ w5 ∷ w6 ∷ w7 ∷ w8 ∷ w9 �
     (Machine s1.0 s3.0 s5.0 s7.0 s9.0 s11.0, record { range = (f5.1, f5.2, f7.1, f7.2, f9.1, f11.1); written = (first, (f1, (f2, (f3, (f4, (f5.0, (f6, (f7.0, (f8, (f9.0, (f10, (f11.0, tt)))))))))))) })
 machine_formed w0 _ asked first is = refused _ asked is
 
-map_formed : (w0 : List ℕ) (words : List (List ℕ)) (asked : Asked) → w0 ≡ codes "map" → map_of words ≡ Ok asked → Formed (w0 ∷ words)
-unfolding map_of
+map_formed : (w0 : List ℕ) (words : List (List ℕ)) (asked : Statement) → w0 ≡ codes "map" → map_directive_of words ≡ Ok asked → Formed (w0 ∷ words)
+unfolding map_directive_of
 map_formed w0 (w1 ∷ w2 ∷ w3 ∷ []) asked first is =
     let s1 = then_ok (named w1) _ asked is in
     let f1 = named_says w1 s1.0 s1.1 in
@@ -94,8 +88,8 @@ map_formed w0 (w1 ∷ w2 ∷ w3 ∷ w4 ∷ []) asked first is =
     elim f3 as (λ _. Formed (w0 ∷ w1 ∷ w2 ∷ w3 ∷ w4 ∷ [])) [ inl bits ↦ (MapRead s1.0 s2.0 s4.0, record { range = (f2.1, f4.1); written = (first, (f1, (f2.0, (bits.0, (f4.0, tt))))) }) | inr bits ↦ (MapWrite s1.0 s2.0 s4.0, record { range = (f2.1, f4.1); written = (first, (f1, (f2.0, (bits.0, (f4.0, tt))))) }) ]
 map_formed w0 _ asked first is = refused _ asked is
 
-start_formed : (w0 : List ℕ) (words : List (List ℕ)) (asked : Asked) → w0 ≡ codes "start" → start_of words ≡ Ok asked → Formed (w0 ∷ words)
-unfolding start_of
+start_formed : (w0 : List ℕ) (words : List (List ℕ)) (asked : Statement) → w0 ≡ codes "start" → start_directive_of words ≡ Ok asked → Formed (w0 ∷ words)
+unfolding start_directive_of
 start_formed w0 (w1 ∷ w2 ∷ []) asked first is =
     let s1 = then_ok (named w1) _ asked is in
     let f1 = named_says w1 s1.0 s1.1 in
@@ -104,8 +98,8 @@ start_formed w0 (w1 ∷ w2 ∷ []) asked first is =
     (Start s1.0 s2.0, record { range = f2.1; written = (first, (f1, (f2.0, tt))) })
 start_formed w0 _ asked first is = refused _ asked is
 
-image_formed : (w0 : List ℕ) (words : List (List ℕ)) (asked : Asked) → w0 ≡ codes "image" → image_of words ≡ Ok asked → Formed (w0 ∷ words)
-unfolding image_of
+image_formed : (w0 : List ℕ) (words : List (List ℕ)) (asked : Statement) → w0 ≡ codes "image" → image_directive_of words ≡ Ok asked → Formed (w0 ∷ words)
+unfolding image_directive_of
 image_formed w0 (w1 ∷ w2 ∷ []) asked first is =
     let s1 = then_ok (named w1) _ asked is in
     let f1 = named_says w1 s1.0 s1.1 in
@@ -114,8 +108,8 @@ image_formed w0 (w1 ∷ w2 ∷ []) asked first is =
     (Image s1.0 s2.0, record { range = f2.1; written = (first, (f1, (f2.0, tt))) })
 image_formed w0 _ asked first is = refused _ asked is
 
-sample_formed : (w0 : List ℕ) (words : List (List ℕ)) (asked : Asked) → w0 ≡ codes "sample" → sample_of words ≡ Ok asked → Formed (w0 ∷ words)
-unfolding sample_of
+sample_formed : (w0 : List ℕ) (words : List (List ℕ)) (asked : Statement) → w0 ≡ codes "sample" → sample_directive_of words ≡ Ok asked → Formed (w0 ∷ words)
+unfolding sample_directive_of
 sample_formed w0 (w1 ∷ w2 ∷ w3 ∷ []) asked first is =
     let s1 = then_ok (named w1) _ asked is in
     let f1 = named_says w1 s1.0 s1.1 in
@@ -126,40 +120,40 @@ sample_formed w0 (w1 ∷ w2 ∷ w3 ∷ []) asked first is =
     (Sampled s1.0 s2.0 s3.0, record { range = f2.1; written = (first, (f1, (f2.0, (f3, tt)))) })
 sample_formed w0 _ asked first is = refused _ asked is
 
-tower_formed : (w0 : List ℕ) (words : List (List ℕ)) (asked : Asked) → w0 ≡ codes "tower" → tower_of words ≡ Ok asked → Formed (w0 ∷ words)
-unfolding tower_of
+tower_formed : (w0 : List ℕ) (words : List (List ℕ)) (asked : Statement) → w0 ≡ codes "tower" → tower_directive_of words ≡ Ok asked → Formed (w0 ∷ words)
+unfolding tower_directive_of
 tower_formed w0 (w1 ∷ w2 ∷ w3 ∷ []) asked first is =
-    let s1 = then_ok (between 0 8 w1) _ asked is in
-    let f1 = between_says 0 8 w1 s1.0 s1.1 in
+    let s1 = then_ok (between 0 job_depth w1) _ asked is in
+    let f1 = between_says 0 job_depth w1 s1.0 s1.1 in
     let s2 = then_ok (fixed (codes "pages") w2) _ asked s1.2 in
     let f2 = fixed_says (codes "pages") w2 s2.0 s2.1 in
-    let s3 = then_ok (between 1 16384 w3) _ asked s2.2 in
-    let f3 = between_says 1 16384 w3 s3.0 s3.1 in
+    let s3 = then_ok (between 1 pages_limit w3) _ asked s2.2 in
+    let f3 = between_says 1 pages_limit w3 s3.0 s3.1 in
     (Tower s1.0 s3.0, record { range = (f1.2, f3.1, f3.2); written = (first, (f1.0, (f2, (f3.0, tt)))) })
 tower_formed w0 (w1 ∷ w2 ∷ w3 ∷ w4 ∷ []) asked first is =
-    let s1 = then_ok (between 0 8 w1) _ asked is in
-    let f1 = between_says 0 8 w1 s1.0 s1.1 in
+    let s1 = then_ok (between 0 job_depth w1) _ asked is in
+    let f1 = between_says 0 job_depth w1 s1.0 s1.1 in
     let s2 = then_ok (fixed (codes "pages") w2) _ asked s1.2 in
     let f2 = fixed_says (codes "pages") w2 s2.0 s2.1 in
-    let s3 = then_ok (between 1 16384 w3) _ asked s2.2 in
-    let f3 = between_says 1 16384 w3 s3.0 s3.1 in
+    let s3 = then_ok (between 1 pages_limit w3) _ asked s2.2 in
+    let f3 = between_says 1 pages_limit w3 s3.0 s3.1 in
     let s4 = then_ok (inner w4) _ asked s3.2 in
     let f4 = inner_says w4 s4.0 s4.1 in
     (TowerOf s1.0 s3.0 s4.0, record { range = (f1.2, f3.1, f3.2, f4.1); written = (first, (f1.0, (f2, (f3.0, (f4.0, tt))))) })
 tower_formed w0 _ asked first is = refused _ asked is
 
-turn_formed : (w0 : List ℕ) (words : List (List ℕ)) (asked : Asked) → w0 ≡ codes "turn" → turn_of words ≡ Ok asked → Formed (w0 ∷ words)
-unfolding turn_of
+turn_formed : (w0 : List ℕ) (words : List (List ℕ)) (asked : Statement) → w0 ≡ codes "turn" → turn_directive_of words ≡ Ok asked → Formed (w0 ∷ words)
+unfolding turn_directive_of
 turn_formed w0 (w1 ∷ w2 ∷ []) asked first is =
     let s1 = then_ok (hart w1) _ asked is in
     let f1 = hart_says w1 s1.0 s1.1 in
-    let s2 = then_ok (between 1 1000000000 w2) _ asked s1.2 in
-    let f2 = between_says 1 1000000000 w2 s2.0 s2.1 in
+    let s2 = then_ok (between 1 steps_limit w2) _ asked s1.2 in
+    let f2 = between_says 1 steps_limit w2 s2.0 s2.1 in
     (Turn s1.0 s2.0, record { range = (f1.1, f2.1, f2.2); written = (first, (f1.0, (f2.0, tt))) })
 turn_formed w0 _ asked first is = refused _ asked is
 
-lines_formed : (w0 : List ℕ) (words : List (List ℕ)) (asked : Asked) → w0 ≡ codes "lines" → lines_of words ≡ Ok asked → Formed (w0 ∷ words)
-unfolding lines_of
+lines_formed : (w0 : List ℕ) (words : List (List ℕ)) (asked : Statement) → w0 ≡ codes "lines" → lines_directive_of words ≡ Ok asked → Formed (w0 ∷ words)
+unfolding lines_directive_of
 lines_formed w0 (w1 ∷ w2 ∷ []) asked first is =
     let s1 = then_ok (hart w1) _ asked is in
     let f1 = hart_says w1 s1.0 s1.1 in
@@ -168,8 +162,8 @@ lines_formed w0 (w1 ∷ w2 ∷ []) asked first is =
     (Lines s1.0 s2.0, record { range = (f1.1, f2.1); written = (first, (f1.0, (f2.0, tt))) })
 lines_formed w0 _ asked first is = refused _ asked is
 
-watch_formed : (w0 : List ℕ) (words : List (List ℕ)) (asked : Asked) → w0 ≡ codes "watch" → watch_of words ≡ Ok asked → Formed (w0 ∷ words)
-unfolding watch_of
+watch_formed : (w0 : List ℕ) (words : List (List ℕ)) (asked : Statement) → w0 ≡ codes "watch" → watch_directive_of words ≡ Ok asked → Formed (w0 ∷ words)
+unfolding watch_directive_of
 watch_formed w0 (w1 ∷ w2 ∷ []) asked first is =
     let s1 = then_ok (hart w1) _ asked is in
     let f1 = hart_says w1 s1.0 s1.1 in
@@ -178,8 +172,8 @@ watch_formed w0 (w1 ∷ w2 ∷ []) asked first is =
     (Watch s1.0 s2.0, record { range = f1.1; written = (first, (f1.0, (f2, tt))) })
 watch_formed w0 _ asked first is = refused _ asked is
 
-dump_formed : (w0 : List ℕ) (words : List (List ℕ)) (asked : Asked) → w0 ≡ codes "dump" → dump_of words ≡ Ok asked → Formed (w0 ∷ words)
-unfolding dump_of
+dump_formed : (w0 : List ℕ) (words : List (List ℕ)) (asked : Statement) → w0 ≡ codes "dump" → dump_directive_of words ≡ Ok asked → Formed (w0 ∷ words)
+unfolding dump_directive_of
 dump_formed w0 (w1 ∷ w2 ∷ []) asked first is =
     let s1 = then_ok (named w1) _ asked is in
     let f1 = named_says w1 s1.0 s1.1 in
@@ -188,14 +182,14 @@ dump_formed w0 (w1 ∷ w2 ∷ []) asked first is =
     (Dump s1.0 s2.0, record { range = f2.1; written = (first, (f1, (f2.0, tt))) })
 dump_formed w0 _ asked first is = refused _ asked is
 
-fitted : (b : Bool) (r : Result Asked JobKind) (asked : Asked) → cond b r (Err fault.Words) ≡ Ok asked → (b ≡ true) × (r ≡ Ok asked)
+fitted : (b : Bool) (r : Result Statement JobKind) (asked : Statement) → cond b r (Err fault.Words) ≡ Ok asked → (b ≡ true) × (r ≡ Ok asked)
 fitted true r asked is = (refl, is)
 fitted false r asked is = cc
 
-word_formed : (w0 : List ℕ) (words : List (List ℕ)) (asked : Asked) → w0 ≡ codes "word" → word_of words ≡ Ok asked → Formed (w0 ∷ words)
-unfolding word_of
+word_formed : (w0 : List ℕ) (words : List (List ℕ)) (asked : Statement) → w0 ≡ codes "word" → word_directive_of words ≡ Ok asked → Formed (w0 ∷ words)
+unfolding word_directive_of
 word_formed w0 (w1 ∷ w2 ∷ ws) asked first is =
-    let fit = fitted (nat_le 1 (length ws) && nat_le (length ws) 8) (word_with w1 w2 ws) asked is in
+    let fit = fitted (nat_le 1 (length ws) && nat_le (length ws) job_values) (word_with w1 w2 ws) asked is in
     let s1 = then_ok (named w1) _ asked fit.1 in
     let f1 = named_says w1 s1.0 s1.1 in
     let s2 = then_ok (address w2) _ asked s1.2 in
@@ -204,38 +198,57 @@ word_formed w0 (w1 ∷ w2 ∷ ws) asked first is =
     let f3 = numbers_say ws s3.0 s3.1 in
     let b = both _ _ fit.0 in
     let low : 1 ≤ length ws = leb-true 1 (length ws) b.0 in
-    let high : length ws ≤ 8 = leb-true (length ws) 8 b.1 in
+    let high : length ws ≤ job_values = leb-true (length ws) job_values b.1 in
     let n : length ws ≡ length s3.0 = are_length (map Spelt s3.0) ws f3 ∙ length-map s3.0 Spelt in
     (Words s1.0 s2.0 s3.0, record { range = (f2.1, omega (arith, low, n), omega (arith, high, n)); written = (first, (f1, (f2.0, f3))) })
 word_formed w0 _ asked first is = refused _ asked is
 
-directive_formed : (first : List ℕ) (words : List (List ℕ)) (asked : Asked) → directive_of first words ≡ Ok asked → Formed (first ∷ words)
-unfolding directive_of
+directive_formed : (first : List ℕ) (words : List (List ℕ)) (asked : Statement) → statement_with first words ≡ Ok asked → Formed (first ∷ words)
+unfolding statement_with
 directive_formed first words asked is =
-    first_or _ first (codes "storage") (storage_of words) _ asked (storage_formed first words asked) (
-    first_or _ first (codes "harts") (harts_of words) _ asked (harts_formed first words asked) (
-    first_or _ first (codes "hart") (hart_of words) _ asked (hart_formed first words asked) (
-    first_or _ first (codes "machine") (machine_of words) _ asked (machine_formed first words asked) (
-    first_or _ first (codes "map") (map_of words) _ asked (map_formed first words asked) (
-    first_or _ first (codes "start") (start_of words) _ asked (start_formed first words asked) (
-    first_or _ first (codes "image") (image_of words) _ asked (image_formed first words asked) (
-    first_or _ first (codes "sample") (sample_of words) _ asked (sample_formed first words asked) (
-    first_or _ first (codes "word") (word_of words) _ asked (word_formed first words asked) (
-    first_or _ first (codes "tower") (tower_of words) _ asked (tower_formed first words asked) (
-    first_or _ first (codes "turn") (turn_of words) _ asked (turn_formed first words asked) (
-    first_or _ first (codes "lines") (lines_of words) _ asked (lines_formed first words asked) (
-    first_or _ first (codes "watch") (watch_of words) _ asked (watch_formed first words asked) (
-    first_or _ first (codes "dump") (dump_of words) _ asked (dump_formed first words asked) (
-    refused fault.Directive asked)))))))))))))) is
+    first_or _ first (codes "harts") (harts_directive_of words) _ asked (harts_formed first words asked) (
+    first_or _ first (codes "hart") (hart_directive_of words) _ asked (hart_formed first words asked) (
+    first_or _ first (codes "machine") (machine_directive_of words) _ asked (machine_formed first words asked) (
+    first_or _ first (codes "map") (map_directive_of words) _ asked (map_formed first words asked) (
+    first_or _ first (codes "start") (start_directive_of words) _ asked (start_formed first words asked) (
+    first_or _ first (codes "image") (image_directive_of words) _ asked (image_formed first words asked) (
+    first_or _ first (codes "sample") (sample_directive_of words) _ asked (sample_formed first words asked) (
+    first_or _ first (codes "word") (word_directive_of words) _ asked (word_formed first words asked) (
+    first_or _ first (codes "tower") (tower_directive_of words) _ asked (tower_formed first words asked) (
+    first_or _ first (codes "turn") (turn_directive_of words) _ asked (turn_formed first words asked) (
+    first_or _ first (codes "lines") (lines_directive_of words) _ asked (lines_formed first words asked) (
+    first_or _ first (codes "watch") (watch_directive_of words) _ asked (watch_formed first words asked) (
+    first_or _ first (codes "dump") (dump_directive_of words) _ asked (dump_formed first words asked) (
+    refused fault.Directive asked))))))))))))) is
 
-pub words_formed : (words : List (List ℕ)) (asked : Asked) → asked_of words ≡ Ok asked → Formed words
-unfolding asked_of
+pub words_formed : (words : List (List ℕ)) (asked : Statement) → statement_of words ≡ Ok asked → Formed words
+unfolding statement_of
 words_formed [] asked is = refused _ asked is
 words_formed (first ∷ words) asked is = directive_formed first words asked is
 
-some_asked : (words : List (List ℕ)) (r : Result Asked JobKind) → asked_of words ≡ r → is_ok r ≡ true → Formed words
-some_asked words (Ok asked) is ok = words_formed words asked is
-some_asked words (Err kind) is ok = cc
+same_said : (x y : Statement) → (let r : Result Statement JobKind = Ok x in r) ≡ Ok y → x ≡ y
+same_said x y is = cc
 
 pub lines_are_formed : LineFormLaw
-lines_are_formed words = (λ ok. some_asked words (asked_of words) refl ok, λ formed. (form_means formed.0 words formed.1).ok)
+lines_are_formed words what = (
+  λ is.
+      let f = words_formed words what is in
+      record { form = f.0; line = f.1; states = same_said _ what (sym (form_means f.0 words f.1) ∙ is) },
+  λ said. form_means said.form words said.line ∙ ap (λ (w : Statement). let r : Result Statement JobKind = Ok w in r) said.states,
+)
+
+-- the storage
+pages_formed : (w0 : List ℕ) (words : List (List ℕ)) (pages : ℕ) → w0 ≡ codes "storage" → storage_pages words ≡ Ok pages → IsStorageLine (w0 ∷ words) pages
+unfolding storage_pages
+pages_formed w0 (w1 ∷ []) pages first is =
+    let f = between_says 1 pages_limit w1 pages is in record { range = (f.1, f.2); written = (first, (f.0, tt)) }
+pages_formed w0 _ pages first is = cc
+
+pub storage_formed : (words : List (List ℕ)) (pages : ℕ) → storage_line_of words ≡ Ok pages → IsStorageLine words pages
+unfolding storage_line_of storage_with
+storage_formed [] pages is = cc
+storage_formed (first ∷ words) pages is =
+    first_or _ first (codes "storage") (storage_pages words) (Err fault.Storage) pages (pages_formed first words pages) (λ e. cc) is
+
+pub storage_is_formed : StorageFormLaw
+storage_is_formed words pages = (storage_formed words pages, storage_means pages words)

@@ -9,26 +9,28 @@ use Rattle.hv_irq.specs.declared.PushEnd.{PushEnd}
 use Rattle.hv_irq.specs.declared.PushEnd.TheVariants as pushed
 use Rattle.hv_lex.specs.Lines.{lines_of}
 use Rattle.hv_samples.specs.Samples.{sample_text}
-use Rattle.hv_job.specs.Asked.{◌>>=◌, asked_of}
-use Rattle.hv_job.specs.Commands.{command_with, commands_from, commands_then, commands_with, entered, is_over, joined}
-use Rattle.hv_job.specs.JobOf.{and_then, asm_kind, at_line, before_end, begins_image, body_from, draft_of, event_with, happened, harts_with, header_from, image_added, image_of, image_with, image_words, is_debug, is_end, is_image, is_many, lines_with, job_of, job_with, line_with, pages_of, placed, push_kind, sample_with, storage_from, storage_pages, storage_with}
-use Rattle.hv_job.specs.Lines.{begins_with, has_words, is_allowed, is_header, words_of}
-use Rattle.hv_job.specs.declared.ends.JobKind.{JobKind}
-use Rattle.hv_job.specs.declared.ends.JobKind.TheVariants as fault
-use Rattle.hv_job.specs.declared.job.DebugCommand.{DebugCommand}
+use Rattle.hv_line.specs.Statements.{◌>>=◌, statement_of}
+use Rattle.hv_line.specs.Commands.{join_words_of}
+use Rattle.hv_job.specs.Commands.{line_commands, commands_from, commands_then, commands_with, new_commands, is_over}
+use Rattle.hv_job.specs.JobOf.{and_then, asm_kind, at_line, before_end, begins_image, body_from, draft_of, event_with, schedule_with, harts_with, header_from, image_lines_with, image_of, image_with, image_words, is_debug, is_end, is_image, is_many, lines_with, job_of, job_with, line_with, directive_with, push_kind, sample_with, storage_from, behind_storage, words_with}
+use Rattle.hv_line.specs.Lines.{begins_with, has_words, is_allowed, is_header, words_of}
+use Rattle.hv_line.specs.declared.kinds.JobKind.{JobKind}
+use Rattle.hv_line.specs.declared.kinds.JobKind.TheVariants as fault
+use Rattle.hv_line.specs.declared.types.Statement.{Statement}
+use Rattle.hv_line.specs.declared.types.DebugCommand.{DebugCommand}
 use Rattle.hv_job.specs.declared.job.DebugLine.{DebugLine as Command}
-use Rattle.hv_job.specs.declared.job.Directive.{Directive}
-use Rattle.hv_job.specs.declared.job.Directive.TheVariants as directive
+use Rattle.hv_line.specs.declared.types.Directive.{Directive}
+use Rattle.hv_line.specs.declared.types.Directive.TheVariants as directive
 use Rattle.hv_job.specs.declared.job.Job.{Job}
-use Rattle.hv_grammar.specs.Forms.{Form, IsLine, Storage, Harts, Image, Sampled, Turn, Lines}
+use Rattle.hv_grammar.specs.Forms.{Form, IsLine, Harts, Image, Sampled, Turn, Lines}
 use Rattle.hv_grammar.specs.Said.{Said}
 use Rattle.hv_grammar.specs.Texts.{GoesOn, IsAllowed, IsLate, IsOver, IsPlain, Place, ThroughTextLaw, AmongCommands, AmongDirectives, BeforeHeader, BeforeStorage, InsideImage}
 use Rattle.hv_grammar.proofs.Calls.{commands_are_calls}
 use Rattle.hv_grammar.proofs.Deeds.{Draft, does}
 use Rattle.hv_grammar.proofs.Inside.{Ends}
-use Rattle.hv_grammar.proofs.Means.{form_means, is_image_form}
-use Rattle.hv_grammar.proofs.Telling.{place_in}
-use Rattle.hv_grammar.proofs.Ways.{IsBlank, Way, ends_at, goes_not, is_debugged, is_ended, not_begun, not_debug, some_call, some_words, way}
+use Rattle.hv_grammar.proofs.Means.{form_means, is_image_form, storage_means}
+use Rattle.hv_grammar.proofs.Telling.{image_form, place_in}
+use Rattle.hv_grammar.proofs.Ways.{IsBlank, Way, ends_at, goes_not, is_debugged, is_ended, not_begun, not_debug, some_call, some_pages, some_words, way}
 
 -- what is refused is refused late
 abbrev Late : {A : Type 0} → Result A (ℕ × JobKind) → Type 0
@@ -44,34 +46,34 @@ late_at n (Ok x) late = tt
 late_at n (Err kind) late = late
 
 -- by a test that is known
-yes_first : {A : Type 0} (M : A → Type 0) (b : Bool) (x y : A) → b ≡ true → M x → M (cond b x y)
+pub yes_first : {A : Type 0} (M : A → Type 0) (b : Bool) (x y : A) → b ≡ true → M x → M (cond b x y)
 yes_first M b x y is m = subst (λ b. M (cond b x y)) (sym is) m
 
-no_first : {A : Type 0} (M : A → Type 0) (b : Bool) (x y : A) → b ≡ false → M y → M (cond b x y)
+pub no_first : {A : Type 0} (M : A → Type 0) (b : Bool) (x y : A) → b ≡ false → M y → M (cond b x y)
 no_first M b x y is m = subst (λ b. M (cond b x y)) (sym is) m
 
-holds : {A : Type 0} (M : A → Type 0) (b : Bool) (x y : A) → b ≡ true → M y → M (cond (not b) x y)
+pub holds : {A : Type 0} (M : A → Type 0) (b : Bool) (x y : A) → b ≡ true → M y → M (cond (not b) x y)
 holds M b x y is m = subst (λ b. M (cond (not b) x y)) (sym is) m
 
-fails : {A : Type 0} (M : A → Type 0) (b : Bool) (x y : A) → b ≡ false → M x → M (cond (not b) x y)
+pub fails : {A : Type 0} (M : A → Type 0) (b : Bool) (x y : A) → b ≡ false → M x → M (cond (not b) x y)
 fails M b x y is m = subst (λ b. M (cond (not b) x y)) (sym is) m
 
-blank_has : (line : List ℕ) → words_of line ≡ [] → has_words line ≡ false
+pub blank_has : (line : List ℕ) → words_of line ≡ [] → has_words line ≡ false
 blank_has line none = ap (λ ws. nat_lt 0 (length ws)) none
 
 -- the commands
-entered_late : (commands : List Command) (n : ℕ) (words : List (List ℕ)) (what : DebugCommand) (b : Bool) → LateKind (let r : Result (List Command) JobKind = cond b (Err fault.Many) (Ok (commands_with commands n (joined words) what)) in r)
+entered_late : (commands : List Command) (n : ℕ) (words : List (List ℕ)) (what : DebugCommand) (b : Bool) → LateKind (let r : Result (List Command) JobKind = cond b (Err fault.Many) (Ok (commands_with commands n (join_words_of words) what)) in r)
 entered_late commands n words what true = tt
 entered_late commands n words what false = tt
 
-command_late : (commands : List Command) (n : ℕ) (line : List ℕ) (next : Place) → Way AmongCommands line next → LateKind (command_with commands n line)
-unfolding command_with
+command_late : (commands : List Command) (n : ℕ) (line : List ℕ) (next : Place) → Way AmongCommands line next → LateKind (line_commands commands n line)
+unfolding line_commands
 command_late commands n line next (inl w) =
     holds LateKind (is_allowed line) (Err fault.Byte) _ w.0.0 (fails LateKind (has_words line) (Ok commands) _ (blank_has line w.0.1) tt)
 command_late commands n line next (inr w) =
     holds LateKind (is_allowed line) (Err fault.Byte) _ w.1 (
     holds LateKind (has_words line) (Ok commands) _ (some_call line w.0 w.2) (
-    subst (λ (r : Result DebugCommand JobKind). LateKind (r >>= entered commands n (words_of line))) (sym ((commands_are_calls (words_of line) w.0).1 w.2)) (entered_late commands n (words_of line) w.0 (is_over commands w.0))))
+    subst (λ (r : Result DebugCommand JobKind). LateKind (r >>= new_commands commands n (words_of line))) (sym ((commands_are_calls (words_of line) w.0).1 w.2)) (entered_late commands n (words_of line) w.0 (is_over commands w.0))))
 
 to_commands : (line : List ℕ) (next : Place) → Way AmongCommands line next → next ≡ AmongCommands
 to_commands line next (inl w) = w.1
@@ -87,7 +89,7 @@ commands_late [] says to n commands on = tt
 commands_late (line ∷ lines) [] to n commands on = absurd on
 commands_late (line ∷ lines) (said ∷ says) to n commands on =
     let w = way AmongCommands line said on.0 on.1 in
-    commands_then_late n (command_with commands n line) (λ next. commands_from next (n + 1) lines) (command_late commands n line on.0 w)
+    commands_then_late n (line_commands commands n line) (λ next. commands_from next (n + 1) lines) (command_late commands n line on.0 w)
     (λ next. commands_late lines says to (n + 1) next (subst (λ (p : Place). GoesOn p lines says to) (to_commands line on.0 w) on.2))
 
 job_late : (draft : Draft) (r : Result (List Command) (ℕ × JobKind)) → Late r → Late (job_with draft r)
@@ -99,8 +101,8 @@ room_late : (b : Bool) (draft : Draft) → LateKind (let r : Result Draft JobKin
 room_late true draft = tt
 room_late false draft = tt
 
-placed_late : (draft : Draft) (n : ℕ) (what : Directive) → LateKind (placed draft n what)
-unfolding placed
+placed_late : (draft : Draft) (n : ℕ) (what : Directive) → LateKind (directive_with draft n what)
+unfolding directive_with
 placed_late draft n what = room_late (is_many draft.lines what) (record draft { lines = lines_with draft.lines n what })
 
 asm_late : (kind : AsmKind) → IsLate (asm_kind kind)
@@ -117,13 +119,13 @@ push_late pushed.Many = tt
 push_late pushed.Hart = tt
 push_late _ = tt
 
-event_late : (draft : Draft) (n : ℕ) (what : Directive) (new : Event) (o : Option PushEnd) → LateKind (event_with draft n what new o)
-event_late draft n what new (Some end) = push_late end
-event_late draft n what new None = tt
+event_late : (draft : Draft) (n : ℕ) (new : Event) (o : Option PushEnd) → LateKind (event_with draft n new o)
+event_late draft n new (Some end) = push_late end
+event_late draft n new None = tt
 
-happened_late : (draft : Draft) (n : ℕ) (what : Directive) (new : Event) → LateKind (happened draft n what new)
-unfolding happened
-happened_late draft n what new = event_late draft n what new (refusal_of draft.recording new)
+schedule_late : (draft : Draft) (n : ℕ) (new : Event) → LateKind (schedule_with draft n new)
+unfolding schedule_with
+schedule_late draft n new = event_late draft n new (refusal_of draft.recording new)
 
 harts_late : (draft : Draft) (harts : ℕ) (o : Option ℕ) → LateKind (harts_with draft harts o)
 harts_late draft harts None = tt
@@ -140,19 +142,18 @@ module _ (draft : Draft) (n : ℕ) (name : List ℕ) (base : ℕ) (lines : List 
       late_at last _ (yes_first LateKind (is_allowed ends.last) _ _ ends.allowed (placed_late draft n (directive.Image name (record { base = base; words = words }))))
   words_late last (Err refusal) = asm_late refusal.1
 
-  image_late : Late (image_added draft n name base lines)
-  unfolding image_added
+  image_late : Late (image_lines_with draft n name base lines)
+  unfolding image_lines_with
   image_late =
       subst (λ o. Late (image_of draft n name base (before_end lines) o)) (sym ends.is)
       (words_late (n + 1 + length (before_end lines)) (image_words base (before_end lines)))
 
 does_late : (draft : Draft) (n : ℕ) (behind : List (List ℕ)) (form : Form) → IsPlain form → Late (does draft n behind form)
-does_late draft n behind (Storage pages) plain = absurd plain
 does_late draft n behind (Image name at) plain = absurd plain
 does_late draft n behind (Harts harts) plain = late_at n _ (harts_late draft harts draft.harts)
 does_late draft n behind (Sampled name at which) plain = late_at n _ (sample_late draft n name at (asm_of (sample_text which) at))
-does_late draft n behind (Turn hart count) plain = late_at n _ (happened_late draft n _ _)
-does_late draft n behind (Lines hart mask) plain = late_at n _ (happened_late draft n _ _)
+does_late draft n behind (Turn hart count) plain = late_at n _ (schedule_late draft n _)
+does_late draft n behind (Lines hart mask) plain = late_at n _ (schedule_late draft n _)
 does_late draft n behind form plain = late_at n _ (placed_late draft n _)
 
 module _ (draft : Draft) (n : ℕ) (line : List ℕ) (lines : List (List ℕ)) where
@@ -161,33 +162,32 @@ module _ (draft : Draft) (n : ℕ) (line : List ℕ) (lines : List (List ℕ)) w
   blank_late w =
       holds {A = Result Draft (ℕ × JobKind)} Late (is_allowed line) _ _ w.0 (fails {A = Result Draft (ℕ × JobKind)} Late (has_words line) _ _ (blank_has line w.1) tt)
 
-  form_late : (form : Form) → IsAllowed line → IsLine (words_of line) form → (begins_with (codes "storage") (words_of line) ≡ false) × (begins_with (codes "debug") (words_of line) ≡ false) → Late (does draft n lines form) → Late (line_with draft n line lines)
+  form_late : (form : Form) → IsAllowed line → IsLine (words_of line) form → begins_with (codes "debug") (words_of line) ≡ false → Late (does draft n lines form) → Late (line_with draft n line lines)
   unfolding line_with
   form_late form allowed is begun late =
       holds {A = Result Draft (ℕ × JobKind)} Late (is_allowed line) _ _ allowed (
       holds {A = Result Draft (ℕ × JobKind)} Late (has_words line) _ _ (some_words line form is) (
-      no_first {A = Result Draft (ℕ × JobKind)} Late (begins_with (codes "storage") (words_of line)) _ _ begun.0 (
-      no_first {A = Result Draft (ℕ × JobKind)} Late (begins_with (codes "debug") (words_of line)) _ _ begun.1 (
-      subst (λ (r : Result Draft (ℕ × JobKind)). Late r) (sym ((form_means form (words_of line) is).deeds draft n lines)) late))))
+      no_first {A = Result Draft (ℕ × JobKind)} Late (begins_with (codes "debug") (words_of line)) _ _ begun (
+      subst (λ (r : Result Statement JobKind). Late (words_with draft n lines r)) (sym (form_means form (words_of line) is)) late)))
 
-  begins_it : (form : Form) → IsLine (words_of line) form → begins_image line ≡ is_image_form form
+  pub begins_it : (form : Form) → IsLine (words_of line) form → begins_image line ≡ is_image_form form
   unfolding begins_image
-  begins_it form is = (form_means form (words_of line) is).image
+  begins_it form is = ap is_image (form_means form (words_of line) is) ∙ image_form form
 
-  blank_begins : words_of line ≡ [] → begins_image line ≡ false
-  unfolding begins_image asked_of
-  blank_begins none = ap (λ words. is_image (asked_of words)) none
+  pub blank_begins : words_of line ≡ [] → begins_image line ≡ false
+  unfolding begins_image statement_of
+  blank_begins none = ap (λ words. is_image (statement_of words)) none
 
 and_late : (r : Result Draft (ℕ × JobKind)) (f : Draft → Result Job (ℕ × JobKind)) → Late r → ((next : Draft) → Late (f next)) → Late (and_then r f)
 and_late (Ok next) f late rest = rest next
 and_late (Err refusal) f late rest = late
 
-plain_begins : (form : Form) → IsPlain form → is_image_form form ≡ false
-plain_begins (Storage pages) plain = refl
+pub plain_begins : (form : Form) → IsPlain form → is_image_form form ≡ false
+plain_begins (Harts harts) plain = refl
 plain_begins (Image name at) plain = absurd plain
 plain_begins _ plain = refl
 
-blank_not_debug : (line : List ℕ) → words_of line ≡ [] → is_debug line ≡ false
+pub blank_not_debug : (line : List ℕ) → words_of line ≡ [] → is_debug line ≡ false
 unfolding begins_with
 blank_not_debug line none = not_debug line (ap (begins_with (codes "debug")) none)
 
@@ -214,12 +214,12 @@ module _ (line : List ℕ) (lines : List (List ℕ)) (rest : Going lines) (says 
   directive_late next (inl w) on =
       goes_late false (blank_not_debug line w.0.1) (blank_begins draft n line lines w.0.1) (blank_late draft n line lines w.0) (subst (λ (p : Place). GoesOn p lines says to) w.1 on)
   directive_late next (inr (inl w)) on =
-      let begun = not_begun w.0 (words_of line) (inl w.1) w.3.written in
-      goes_late false (not_debug line begun.1) (begins_it draft n line lines w.0 w.3 ∙ plain_begins w.0 w.1) (form_late draft n line lines w.0 w.2 w.3 begun (does_late draft n lines w.0 w.1)) (subst (λ (p : Place). GoesOn p lines says to) w.4 on)
+      let begun = not_begun w.0 (words_of line) w.3.written in
+      goes_late false (not_debug line begun) (begins_it draft n line lines w.0 w.3 ∙ plain_begins w.0 w.1) (form_late draft n line lines w.0 w.2 w.3 begun (does_late draft n lines w.0 w.1)) (subst (λ (p : Place). GoesOn p lines says to) w.4 on)
   directive_late next (inr (inr (inl w))) on =
-      let begun = not_begun (Image w.0 w.1) (words_of line) (inr (w.0, w.1, refl)) w.3.written in
+      let begun = not_begun (Image w.0 w.1) (words_of line) w.3.written in
       let behind : GoesOn InsideImage lines says to = subst (λ (p : Place). GoesOn p lines says to) w.4 on in
-      goes_late true (not_debug line begun.1) (begins_it draft n line lines (Image w.0 w.1) w.3) (form_late draft n line lines (Image w.0 w.1) w.2 w.3 begun (image_late draft n w.0 w.1 lines (ends_at lines says to over behind))) behind
+      goes_late true (not_debug line begun) (begins_it draft n line lines (Image w.0 w.1) w.3) (form_late draft n line lines (Image w.0 w.1) w.2 w.3 begun (image_late draft n w.0 w.1 lines (ends_at lines says to over behind))) behind
   directive_late next (inr (inr (inr w))) on =
       yes_first {A = Result Job (ℕ × JobKind)} Late (is_debug line) _ _ (is_debugged line w.0 w.1)
       (job_late draft (commands_from [] (n + 1) lines) (commands_late lines says to (n + 1) [] (subst (λ (p : Place). GoesOn p lines says to) w.2 on)))
@@ -234,13 +234,6 @@ body_late (line ∷ lines) (said ∷ says) to draft false n over on =
     directive_late line lines (body_late lines) says to draft n over on.0 (way AmongDirectives line said on.0 on.1) on.2
 
 -- the storage
-stored : (words : List (List ℕ)) (pages : ℕ) → IsLine words (Storage pages) → storage_pages words ≡ Ok pages
-unfolding storage_pages begins_with
-stored [] pages is = absurd is.written
-stored (w ∷ ws) pages is =
-    ap (λ w. cond (begins_with (codes "storage") (w ∷ ws)) (pages_of (asked_of (w ∷ ws))) (Err fault.Storage)) is.written.0
-    ∙ ap (λ w. pages_of (asked_of (w ∷ ws))) (sym is.written.0) ∙ (form_means (Storage pages) (w ∷ ws) is).pages
-
 module _ (line : List ℕ) (lines : List (List ℕ)) (says : List Said) (to : Place) (n : ℕ) (over : IsOver to) where
   storage_step : (next : Place) → (GoesOn BeforeStorage lines says to → Late (storage_from (n + 1) lines)) → Way BeforeStorage line next → GoesOn next lines says to → Late (storage_from n (line ∷ lines))
   unfolding storage_from
@@ -249,8 +242,8 @@ module _ (line : List ℕ) (lines : List (List ℕ)) (says : List Said) (to : Pl
       (fails {A = Result Job (ℕ × JobKind)} Late (has_words line) _ _ (blank_has line w.0.1) (rest (subst (λ (p : Place). GoesOn p lines says to) w.1 on)))
   storage_step next rest (inr w) on =
       holds {A = Result Job (ℕ × JobKind)} Late (is_allowed line) _ _ w.1
-      (holds {A = Result Job (ℕ × JobKind)} Late (has_words line) _ _ (some_words line (Storage w.0) w.2)
-      (subst (λ (r : Result ℕ JobKind). Late (storage_with n lines r)) (sym (stored (words_of line) w.0 w.2))
+      (holds {A = Result Job (ℕ × JobKind)} Late (has_words line) _ _ (some_pages line w.0 w.2)
+      (subst (λ (r : Result ℕ JobKind). Late (behind_storage n lines r)) (sym (storage_means w.0 (words_of line) w.2))
       (body_late lines says to (draft_of w.0) false (n + 1) over (subst (λ (p : Place). GoesOn p lines says to) w.3 on))))
 
 storage_late : (lines : List (List ℕ)) (says : List Said) (to : Place) (n : ℕ) → IsOver to → GoesOn BeforeStorage lines says to → Late (storage_from n lines)
@@ -261,7 +254,7 @@ storage_late (line ∷ lines) (said ∷ says) to n over on =
     storage_step line lines says to n over on.0 (storage_late lines says to (n + 1) over) (way BeforeStorage line said on.0 on.1) on.2
 
 -- the header
-headed : (line : List ℕ) → words_of line ≡ codes "job" ∷ codes "1" ∷ [] → (has_words line ≡ true) × (is_header (words_of line) ≡ true)
+pub headed : (line : List ℕ) → words_of line ≡ codes "job" ∷ codes "1" ∷ [] → (has_words line ≡ true) × (is_header (words_of line) ≡ true)
 unfolding is_header
 headed line is = (ap (λ (ws : List (List ℕ)). nat_lt 0 (length ws)) is, ap is_header is)
 

@@ -9,3 +9,6 @@ pub mod Telling
 pub mod Through
 pub mod Ways
 pub mod Late
+pub mod Room
+pub mod Saying
+pub mod Back

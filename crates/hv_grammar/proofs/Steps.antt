@@ -3,8 +3,8 @@ use Rattle.std.proofs.Common.{◌≡◌, ◌≢◌, ℕ, suc, ◌+◌, ◌≤◌
 use Rattle.std.proofs.lemmas.Bool.{ltb-false}
 use Rattle.std.proofs.lemmas.List.{nil_from_length}
 use Rattle.hv_job.specs.JobOf.{is_debug, is_end}
-use Rattle.hv_job.specs.Lines.{has_words, is_header, is_only, words_of}
-use Rattle.hv_job.specs.declared.ends.JobKind.{JobKind}
+use Rattle.hv_line.specs.Lines.{has_words, is_header, is_only, words_of}
+use Rattle.hv_line.specs.declared.kinds.JobKind.{JobKind}
 use Rattle.hv_grammar.specs.Said.{Said}
 use Rattle.hv_grammar.specs.Texts.{Goes, GoesOn, IsAllowed, IsOver, Place}
 use Rattle.hv_grammar.proofs.Tests.{both, same_text, text_same}

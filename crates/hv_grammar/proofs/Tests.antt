@@ -6,11 +6,13 @@ use Rattle.std.proofs.lemmas.Slice.Eq.{bytes_eq-Decides}
 use Rattle.hv_lex.specs.Numbers.{number_of}
 use Rattle.hv_samples.specs.declared.choice.Sample.{Sample}
 use Rattle.hv_samples.specs.declared.choice.Sample.TheVariants.{Pass, Slicer, Forward, Pager}
-use Rattle.hv_job.specs.Asked.{◌>>=◌, access, address, any_sample, between, fixed, hart, inner, later_page, mask, named, number, numbers, or_no_name, or_no_number, page}
-use Rattle.hv_job.specs.Names.{is_name, name_of}
-use Rattle.hv_job.specs.declared.ends.JobKind.{JobKind}
-use Rattle.hv_job.specs.declared.ends.JobKind.TheVariants as fault
-use Rattle.hv_job.proofs.Ranging.{then_ok}
+use Rattle.hv_limits.specs.Limits.{lines_mask}
+use Rattle.hv_line.specs.JobLimits.{job_harts}
+use Rattle.hv_line.specs.Statements.{◌>>=◌, access, address, any_sample, between, fixed, hart, inner, later_page, mask, named, number, numbers, or_no_name, or_no_number, page}
+use Rattle.hv_line.specs.Names.{is_name, name_of}
+use Rattle.hv_line.specs.declared.kinds.JobKind.{JobKind}
+use Rattle.hv_line.specs.declared.kinds.JobKind.TheVariants as fault
+use Rattle.hv_line.proofs.Ranging.{then_ok}
 use Rattle.hv_grammar.specs.Forms.{AreWords, Spelt, Word, sample_word}
 
 -- a test that is passed, and then the next
@@ -63,11 +65,11 @@ unfolding between
 between_is low high word n is l h =
     then_is (number word) _ n (Ok n) (number_is word n is) (taken _ n fault.Range (both_is _ _ (le-leb low n l) (le-leb n high h)))
 
-pub hart_says : (word : List ℕ) (n : ℕ) → hart word ≡ Ok n → (number_of word ≡ Some n) × (n ≤ 3)
-hart_says word n is = let b = between_says 0 3 word n is in (b.0, b.2)
+pub hart_says : (word : List ℕ) (n : ℕ) → hart word ≡ Ok n → (number_of word ≡ Some n) × (n < job_harts)
+hart_says word n is = let b = between_says 0 (job_harts - 1) word n is in let h : n ≤ job_harts - 1 = b.2 in (b.0, omega (arith, h))
 
-pub hart_is : (word : List ℕ) (n : ℕ) → number_of word ≡ Some n → n ≤ 3 → hart word ≡ Ok n
-hart_is word n is h = between_is 0 3 word n is (omega arith) h
+pub hart_is : (word : List ℕ) (n : ℕ) → number_of word ≡ Some n → n < job_harts → hart word ≡ Ok n
+hart_is word n is h = let le : n ≤ job_harts - 1 = omega (arith, h) in between_is 0 (job_harts - 1) word n is (omega arith) le
 
 pub page_says : (word : List ℕ) (n : ℕ) → page word ≡ Ok n → (number_of word ≡ Some n) × (n < 2 ^ 20)
 page_says word n is = let b = between_says 0 (2 ^ 20 - 1) word n is in let h : n ≤ 2 ^ 20 - 1 = b.2 in (b.0, omega (arith, h))
@@ -95,16 +97,16 @@ unfolding address
 address_is word n is e = then_is (number word) _ n (Ok n) (number_is word n is) (taken _ n fault.Range (eq-eqb (n % 4) 0 e))
 
 -- a mask of lines
-pub mask_says : (word : List ℕ) (n : ℕ) → mask word ≡ Ok n → (number_of word ≡ Some n) × (bit_and n 0x888 ≡ n)
+pub mask_says : (word : List ℕ) (n : ℕ) → mask word ≡ Ok n → (number_of word ≡ Some n) × (bit_and n lines_mask ≡ n)
 unfolding mask
 mask_says word n is =
     let s = then_ok (number word) _ n is in
     let t = chosen _ _ _ _ s.2 in
-    (number_says word s.0 s.1 ∙ ap Some t.1, subst (λ n. bit_and n 0x888 ≡ n) t.1 (eqb-true (bit_and s.0 0x888) s.0 t.0))
+    (number_says word s.0 s.1 ∙ ap Some t.1, subst (λ n. bit_and n lines_mask ≡ n) t.1 (eqb-true (bit_and s.0 lines_mask) s.0 t.0))
 
-pub mask_is : (word : List ℕ) (n : ℕ) → number_of word ≡ Some n → bit_and n 0x888 ≡ n → mask word ≡ Ok n
+pub mask_is : (word : List ℕ) (n : ℕ) → number_of word ≡ Some n → bit_and n lines_mask ≡ n → mask word ≡ Ok n
 unfolding mask
-mask_is word n is e = then_is (number word) _ n (Ok n) (number_is word n is) (taken _ n fault.Range (eq-eqb (bit_and n 0x888) n e))
+mask_is word n is e = then_is (number word) _ n (Ok n) (number_is word n is) (taken _ n fault.Range (eq-eqb (bit_and n lines_mask) n e))
 
 -- a name
 name_says : (b : Bool) (word name : List ℕ) → or_no_name (cond b (Some word) None) ≡ Ok name → (word ≡ name) × (b ≡ true)

@@ -1,26 +1,27 @@
 -- The way of a text through its places, and what its lines say.
 use Rattle.std.proofs.Common.{◌≡◌, ℕ, ◌+◌, ◌-◌, ◌≤◌, Bool, true, false, not, cond, codes, List, [], ◌∷◌, ◌++◌, length, take, unwrap_or, Option, Some, None, Result, Ok, Err, refl, sym, ap, ◌∙◌, subst, arith, append-nil, append_assoc}
 use Rattle.hv_lex.specs.Lines.{lines_of}
-use Rattle.hv_job.specs.Asked.{asked_of}
-use Rattle.hv_job.specs.Commands.{command_of, command_with, commands_from, commands_then, commands_with, entered, is_over, joined}
-use Rattle.hv_job.specs.JobOf.{and_then, before_end, begins_image, body_from, draft_of, header_from, is_debug, is_end, job_in, job_of, job_with, line_with, pages_of, storage_from, storage_pages, storage_with}
-use Rattle.hv_job.specs.Lines.{begins_with, has_words, is_allowed, is_header, words_of}
-use Rattle.hv_job.specs.declared.ends.JobKind.{JobKind}
-use Rattle.hv_job.specs.declared.ends.JobKind.TheVariants as fault
-use Rattle.hv_job.specs.declared.job.DebugCommand.{DebugCommand}
+use Rattle.hv_line.specs.Statements.{storage_line_of}
+use Rattle.hv_line.specs.Commands.{command_of, join_words_of}
+use Rattle.hv_job.specs.Commands.{line_commands, commands_from, commands_then, commands_with, new_commands, is_over}
+use Rattle.hv_job.specs.JobOf.{and_then, before_end, begins_image, body_from, draft_of, header_from, is_debug, is_end, job_in, job_of, job_with, line_with, storage_from, behind_storage}
+use Rattle.hv_line.specs.Lines.{has_words, is_allowed, is_header, words_of}
+use Rattle.hv_line.specs.declared.kinds.JobKind.{JobKind}
+use Rattle.hv_line.specs.declared.kinds.JobKind.TheVariants as fault
+use Rattle.hv_line.specs.declared.types.DebugCommand.{DebugCommand}
 use Rattle.hv_job.specs.declared.job.DebugLine.{DebugLine as Command}
 use Rattle.hv_job.specs.declared.job.Job.{Job}
-use Rattle.hv_job.proofs.Ranging.{then_ok}
-use Rattle.hv_grammar.specs.Forms.{Form, IsLine, Storage, Harts}
-use Rattle.hv_grammar.specs.Said.{AreAssembled, Said, Called, Directed, Inner, Nothing, commands_by, commands_said, events_by, events_said, harts_said, inner_lines, job_said, placed_by, placed_said}
-use Rattle.hv_grammar.specs.Texts.{AcceptedTextLaw, AreGoodBefore, Goes, GoesOn, IsAllowed, IsTold, RefusedTextLaw, AmongCommands, AmongDirectives, BeforeHeader, BeforeStorage, InsideImage, NoWords, Header, StorageLine, InnerLine, EndLine, DebugLine, CommandLine}
+use Rattle.hv_line.proofs.Ranging.{then_ok}
+use Rattle.hv_grammar.specs.Said.{AreAssembled, Said, Called, Inner, Nothing, StorageOf, commands_by, commands_said, events_by, events_said, harts_said, inner_lines, job_said, placed_by, placed_said}
+use Rattle.hv_grammar.specs.Texts.{AreGoodBefore, Goes, GoesOn, IsAllowed, IsTold, RefusedTextLaw, AmongCommands, AmongDirectives, BeforeHeader, BeforeStorage, InsideImage, NoWords, Header, StorageLine, InnerLine, EndLine, DebugLine, CommandLine}
 use Rattle.hv_grammar.proofs.Calls.{words_call}
 use Rattle.hv_grammar.proofs.Deeds.{Draft}
-use Rattle.hv_grammar.proofs.Formed.{words_formed}
+use Rattle.hv_grammar.proofs.Formed.{storage_formed}
 use Rattle.hv_grammar.proofs.Inside.{Ends, before_next, ends_here, ends_next, no_end}
-use Rattle.hv_grammar.proofs.Means.{Asked, form_means, form_pages}
 use Rattle.hv_grammar.proofs.Steps.{Good, Stops, Whole, by_result, by_test, debug_says, end_says, goes_says, header_says, no_words, step, stops, unless}
-use Rattle.hv_grammar.proofs.Telling.{Says, Told, line_says, or_first, place_in}
+use Rattle.hv_grammar.specs.Within.{IsWithin, harts_lines}
+use Rattle.hv_job.proofs.Limiting.{IsReadJob, text_is}
+use Rattle.hv_grammar.proofs.Telling.{Says, Told, harts_count, line_says, or_first, place_in}
 
 -- The commands: nothing else is said among them.
 pub record AreCommands (commands : List Command) (n : ℕ) (all : List Command) (says : List Said) : Type 0 where
@@ -28,20 +29,21 @@ pub record AreCommands (commands : List Command) (n : ℕ) (all : List Command) 
   pub placed : placed_said n says ≡ []
   pub events : events_said says ≡ []
   pub harts : harts_said says ≡ None
+  pub counted : harts_lines says ≡ 0
   pub assembled : AreAssembled says
 
-record IsCommanded (commands next : List Command) (n : ℕ) (line : List ℕ) : Type 0 where
-  said : Said
-  goes : Goes AmongCommands line said AmongCommands
-  is : next ≡ commands ++ commands_by n said
-  more : (all : List Command) (says : List Said) → AreCommands next (n + 1) all says → AreCommands commands n all (said ∷ says)
+pub record IsCommanded (commands next : List Command) (n : ℕ) (line : List ℕ) : Type 0 where
+  pub said : Said
+  pub goes : Goes AmongCommands line said AmongCommands
+  pub is : next ≡ commands ++ commands_by n said
+  pub more : (all : List Command) (says : List Said) → AreCommands next (n + 1) all says → AreCommands commands n all (said ∷ says)
 
-longer : (commands next by : List Command) (n : ℕ) (all : List Command) (says : List Said) → next ≡ commands ++ by → all ≡ next ++ commands_said (n + 1) says → all ≡ commands ++ (by ++ commands_said (n + 1) says)
+pub longer : (commands next by : List Command) (n : ℕ) (all : List Command) (says : List Said) → next ≡ commands ++ by → all ≡ next ++ commands_said (n + 1) says → all ≡ commands ++ (by ++ commands_said (n + 1) says)
 longer commands next by n all says next_is is =
     is ∙ ap (λ cs. cs ++ commands_said (n + 1) says) next_is ∙ append_assoc commands by (commands_said (n + 1) says)
 
 module _ (commands next : List Command) (n : ℕ) (line : List ℕ) where
-  skipped : IsAllowed line → words_of line ≡ [] → commands ≡ next → IsCommanded commands next n line
+  unfoldable pub skipped : IsAllowed line → words_of line ≡ [] → commands ≡ next → IsCommanded commands next n line
   skipped allowed none same =
       let is : next ≡ commands ++ [] = sym same ∙ sym (append-nil commands) in
       record {
@@ -53,11 +55,12 @@ module _ (commands next : List Command) (n : ℕ) (line : List ℕ) where
           placed = are.placed;
           events = are.events;
           harts = are.harts;
+          counted = (let c : harts_lines says ≡ 0 = are.counted in omega (arith, c));
           assembled = (tt, are.assembled);
         };
       }
 
-  commanded : (what : DebugCommand) → IsAllowed line → command_of (words_of line) ≡ Ok what → next ≡ commands_with commands n (joined (words_of line)) what → IsCommanded commands next n line
+  unfoldable pub commanded : (what : DebugCommand) → IsAllowed line → command_of (words_of line) ≡ Ok what → next ≡ commands_with commands n (join_words_of (words_of line)) what → IsCommanded commands next n line
   commanded what allowed is made = record {
     said = Called (words_of line) what;
     goes = CommandLine what allowed (words_call (words_of line) what is);
@@ -67,21 +70,22 @@ module _ (commands next : List Command) (n : ℕ) (line : List ℕ) where
       placed = are.placed;
       events = are.events;
       harts = are.harts;
+      counted = (let c : harts_lines says ≡ 0 = are.counted in omega (arith, c));
       assembled = (tt, are.assembled);
     };
   }
 
-  entered_is : (what : DebugCommand) (words : List (List ℕ)) (b : Bool) → (let r : Result (List Command) JobKind = cond b (Err fault.Many) (Ok (commands_with commands n (joined words) what)) in r) ≡ Ok next → next ≡ commands_with commands n (joined words) what
+  entered_is : (what : DebugCommand) (words : List (List ℕ)) (b : Bool) → (let r : Result (List Command) JobKind = cond b (Err fault.Many) (Ok (commands_with commands n (join_words_of words) what)) in r) ≡ Ok next → next ≡ commands_with commands n (join_words_of words) what
   entered_is what words true is = cc
   entered_is what words false is = cc
 
-  command_is : command_with commands n line ≡ Ok next → IsCommanded commands next n line
-  unfolding command_with
+  command_is : line_commands commands n line ≡ Ok next → IsCommanded commands next n line
+  unfolding line_commands
   command_is =
       let R = λ (r : Result (List Command) JobKind). r ≡ Ok next → IsCommanded commands next n line in
       unless R (is_allowed line) (Err fault.Byte) _ (λ no is. cc) (λ allowed.
       unless R (has_words line) (Ok commands) _ (λ none is. let same : commands ≡ next = cc in skipped allowed (no_words line none) same) (λ some is.
-      let s = then_ok (command_of (words_of line)) (entered commands n (words_of line)) next is in
+      let s = then_ok (command_of (words_of line)) (new_commands commands n (words_of line)) next is in
       commanded s.0 allowed s.1 (entered_is s.0 (words_of line) (is_over commands s.0) s.2)))
 
 commands_good : (lines : List (List ℕ)) (n : ℕ) (commands : List Command) → Good AmongCommands n lines (AreCommands commands n) (commands_from commands n lines)
@@ -91,16 +95,16 @@ commands_good [] n commands = record {
   place = AmongCommands;
   goes_on = refl;
   over = tt;
-  holds = record { is = sym (append-nil commands); placed = refl; events = refl; harts = refl; assembled = tt };
+  holds = record { is = sym (append-nil commands); placed = refl; events = refl; harts = refl; counted = refl; assembled = tt };
 }
 commands_good (line ∷ lines) n commands =
-    by_result (λ (r : Result (List Command) JobKind). Good AmongCommands n (line ∷ lines) (AreCommands commands n) (commands_then n r (λ next. commands_from next (n + 1) lines))) (command_with commands n line)
+    by_result (λ (r : Result (List Command) JobKind). Good AmongCommands n (line ∷ lines) (AreCommands commands n) (commands_then n r (λ next. commands_from next (n + 1) lines))) (line_commands commands n line)
     (λ next is. let c = command_is commands next n line is in
     step AmongCommands AmongCommands n line lines c.said (AreCommands commands n) (AreCommands next (n + 1)) c.goes c.more (commands_from next (n + 1) lines) (commands_good lines (n + 1) next))
     (λ kind is. stops AmongCommands n (line ∷ lines))
 
 -- the job of a draft and what is said behind it
-abbrev job_behind : Draft → ℕ → List Said → Job
+abbrev pub job_behind : Draft → ℕ → List Said → Job
 job_behind draft n says = record {
   pages = draft.pages;
   harts = unwrap_or (or_first draft.harts (harts_said says)) 1;
@@ -109,17 +113,22 @@ job_behind draft n says = record {
   commands = commands_said n says;
 }
 
-record IsBehind (draft : Draft) (inside : Bool) (lines : List (List ℕ)) (n : ℕ) (job : Job) (says : List Said) : Type 0 where
-  is : job ≡ job_behind draft n says
-  assembled : AreAssembled says
-  inner : inside ≡ true → inner_lines says ≡ before_end lines
+pub record IsBehind (draft : Draft) (inside : Bool) (lines : List (List ℕ)) (n : ℕ) (job : Job) (says : List Said) : Type 0 where
+  pub is : job ≡ job_behind draft n says
+  pub counted : harts_count draft.harts + harts_lines says ≤ 1
+  pub assembled : AreAssembled says
+  pub inner : inside ≡ true → inner_lines says ≡ before_end lines
+
+at_most_one : (o : Option ℕ) → harts_count o ≤ 1
+at_most_one (Some n) = omega arith
+at_most_one None = omega arith
 
 none_first : (o : Option ℕ) → or_first o None ≡ o
 none_first (Some n) = refl
 none_first None = refl
 
 -- behind the line `debug`
-debugged : (draft : Draft) (n : ℕ) (line : List ℕ) (lines : List (List ℕ)) (commands : List Command) (says : List Said) → AreCommands [] (n + 1) commands says → IsBehind draft false (line ∷ lines) n (job_in draft commands) (Nothing ∷ says)
+pub debugged : (draft : Draft) (n : ℕ) (line : List ℕ) (lines : List (List ℕ)) (commands : List Command) (says : List Said) → AreCommands [] (n + 1) commands says → IsBehind draft false (line ∷ lines) n (job_in draft commands) (Nothing ∷ says)
 debugged draft n line lines commands says are = record {
   is = λ i. record {
     pages = draft.pages;
@@ -128,32 +137,37 @@ debugged draft n line lines commands says are = record {
     recording = (sym (append-nil draft.recording) ∙ ap (λ es. draft.recording ++ es) (sym are.events)) i;
     commands = are.is i;
   };
+  counted = (let one = at_most_one draft.harts in omega (arith, one, are.counted));
   assembled = (tt, are.assembled);
   inner = λ image. cc;
 }
 
 -- a text may end among the directives
+pub nothing_behind : (draft : Draft) (n : ℕ) → IsBehind draft false [] n (job_in draft []) []
+nothing_behind draft n = record {
+  is = λ i. record {
+    pages = draft.pages;
+    harts = (ap (λ o. unwrap_or o 1) (sym (none_first draft.harts))) i;
+    lines = (sym (append-nil draft.lines)) i;
+    recording = (sym (append-nil draft.recording)) i;
+    commands = [];
+  };
+  counted = (let one = at_most_one draft.harts in omega (arith, one));
+  assembled = tt;
+  inner = λ image. cc;
+}
+
 ended : (draft : Draft) (n : ℕ) → Whole AmongDirectives [] (IsBehind draft false [] n (job_in draft []))
 ended draft n = record {
   says = [];
   place = AmongDirectives;
   goes_on = refl;
   over = tt;
-  holds = record {
-    is = λ i. record {
-      pages = draft.pages;
-      harts = (ap (λ o. unwrap_or o 1) (sym (none_first draft.harts))) i;
-      lines = (sym (append-nil draft.lines)) i;
-      recording = (sym (append-nil draft.recording)) i;
-      commands = [];
-    };
-    assembled = tt;
-    inner = λ image. cc;
-  };
+  holds = nothing_behind draft n;
 }
 
 -- the directives, where an image's lines may come first
-abbrev Going : List (List ℕ) → Type 0
+abbrev pub Going : List (List ℕ) → Type 0
 Going lines = (draft : Draft) (inside : Bool) (n : ℕ) → (inside ≡ true → Ends lines) → Good (place_in inside) n lines (IsBehind draft inside lines n) (body_from draft inside n lines)
 
 module _ (line : List ℕ) (lines : List (List ℕ)) (rest : Going lines) (draft : Draft) (n : ℕ) where
@@ -162,6 +176,7 @@ module _ (line : List ℕ) (lines : List (List ℕ)) (rest : Going lines) (draft
       step InsideImage AmongDirectives n line lines Nothing (IsBehind draft true (line ∷ lines) n) (IsBehind draft false lines (n + 1)) (EndLine (ends_here line lines is ends) (end_says line is))
       (λ job says behind. record {
         is = behind.is;
+        counted = (let c : harts_count draft.harts + harts_lines says ≤ 1 = behind.counted in omega (arith, c));
         assembled = (tt, behind.assembled);
         inner = λ image. sym (before_next line lines ∙ ap (λ b. cond (not b) (line ∷ before_end lines) []) is);
       })
@@ -170,29 +185,31 @@ module _ (line : List ℕ) (lines : List (List ℕ)) (rest : Going lines) (draft
       step InsideImage InsideImage n line lines (Inner line) (IsBehind draft true (line ∷ lines) n) (IsBehind draft true lines (n + 1)) (InnerLine (goes_says line is))
       (λ job says behind. record {
         is = behind.is;
+        counted = (let c : harts_count draft.harts + harts_lines says ≤ 1 = behind.counted in omega (arith, c));
         assembled = (tt, behind.assembled);
         inner = λ image. ap (λ ls. line ∷ ls) (behind.inner refl) ∙ sym (before_next line lines ∙ ap (λ b. cond (not b) (line ∷ before_end lines) []) is);
       })
       (body_from draft true (n + 1) lines) (rest draft true (n + 1) (λ image. ends_next line lines is ends))
 
-  told_step : (image : Bool) (next : Draft) → (t : Told draft n line lines image next) → (job : Job) (says : List Said) → IsBehind next image lines (n + 1) job says → IsBehind draft false (line ∷ lines) n job (t.said ∷ says)
-  told_step image next t job says behind =
-      let placed : next.lines ≡ draft.lines ++ placed_by n t.said says = t.directives says behind.inner in
+  pub told_step : (image : Bool) (next : Draft) (it : Said) → (t : Told draft n line lines image it next) → (job : Job) (says : List Said) → IsBehind next image lines (n + 1) job says → IsBehind draft false (line ∷ lines) n job (it ∷ says)
+  told_step image next it t job says behind =
+      let placed : next.lines ≡ draft.lines ++ placed_by n it says = t.directives says behind.inner in
       record {
         is = behind.is ∙ (λ i. record {
           pages = t.pages i;
           harts = unwrap_or (t.harts (harts_said says) i) 1;
-          lines = (ap (λ ps. ps ++ placed_said (n + 1) says) placed ∙ append_assoc draft.lines (placed_by n t.said says) (placed_said (n + 1) says)) i;
-          recording = (ap (λ es. es ++ events_said says) t.events ∙ append_assoc draft.recording (events_by t.said) (events_said says)) i;
+          lines = (ap (λ ps. ps ++ placed_said (n + 1) says) placed ∙ append_assoc draft.lines (placed_by n it says) (placed_said (n + 1) says)) i;
+          recording = (ap (λ es. es ++ events_said says) t.events ∙ append_assoc draft.recording (events_by it) (events_said says)) i;
           commands = (ap (λ cs. cs ++ commands_said (n + 1) says) (sym t.calls)) i;
         });
+        counted = (let c = behind.counted in omega (arith, c, t.counted));
         assembled = (t.assembled says behind.inner, behind.assembled);
         inner = λ inside. cc;
       }
 
   said : (r : Result Draft (ℕ × JobKind)) → Says draft n line lines (begins_image line) r → Good AmongDirectives n (line ∷ lines) (IsBehind draft false (line ∷ lines) n) (and_then r (λ next. body_from next (begins_image line) (n + 1) lines))
-  said (Ok next) t =
-      step AmongDirectives (place_in (begins_image line)) n line lines t.said (IsBehind draft false (line ∷ lines) n) (IsBehind next (begins_image line) lines (n + 1)) t.goes (told_step (begins_image line) next t) (body_from next (begins_image line) (n + 1) lines) (rest next (begins_image line) (n + 1) t.ends)
+  said (Ok next) (it, t) =
+      step AmongDirectives (place_in (begins_image line)) n line lines it (IsBehind draft false (line ∷ lines) n) (IsBehind next (begins_image line) lines (n + 1)) t.goes (told_step (begins_image line) next it t) (body_from next (begins_image line) (n + 1) lines) (rest next (begins_image line) (n + 1) t.ends)
   said (Err refusal) stop = stop
 
   debug_step : IsAllowed line → words_of line ≡ codes "debug" ∷ [] → (r : Result (List Command) (ℕ × JobKind)) → Good AmongCommands (n + 1) lines (AreCommands [] (n + 1)) r → Good AmongDirectives n (line ∷ lines) (IsBehind draft false (line ∷ lines) n) (job_with draft r)
@@ -212,40 +229,22 @@ module _ (line : List ℕ) (lines : List (List ℕ)) (rest : Going lines) (draft
       (λ debug. let d = debug_says line debug in debug_step d.1 d.0 (commands_from [] (n + 1) lines) (commands_good lines (n + 1) []))
       (λ other. said (line_with draft n line lines) (line_says draft n line lines))
 
-body_good : (lines : List (List ℕ)) → Going lines
+pub body_good : (lines : List (List ℕ)) → Going lines
 unfolding body_from
 body_good [] draft true n ends = absurd (no_end (ends refl))
 body_good [] draft false n ends = ended draft n
 body_good (line ∷ lines) draft true n ends = inside_step line lines (body_good lines) draft n (ends refl) (is_end line) refl
 body_good (line ∷ lines) draft false n ends = directive_step line lines (body_good lines) draft n
 
--- the storage
-storage_form : (form : Form) (pages : ℕ) (words : List (List ℕ)) → IsLine words form → form_pages form ≡ Ok pages → IsLine words (Storage pages)
-storage_form (Storage p) pages words line is = let e : p ≡ pages = cc in subst (λ p. IsLine words (Storage p)) e line
-storage_form (Harts harts) pages words line is = cc
-storage_form _ pages words line is = cc
-
-asked_pages : (words : List (List ℕ)) (pages : ℕ) (r : Result Asked JobKind) → asked_of words ≡ r → pages_of r ≡ Ok pages → IsLine words (Storage pages)
-asked_pages words pages (Ok asked) is found =
-    let f = words_formed words asked is in
-    let m = form_means f.0 words f.1 in
-    storage_form f.0 pages words f.1 (sym m.pages ∙ ap pages_of is ∙ found)
-asked_pages words pages (Err kind) is found = cc
-
-pages_line : (words : List (List ℕ)) (pages : ℕ) → storage_pages words ≡ Ok pages → IsLine words (Storage pages)
-unfolding storage_pages
-pages_line words pages =
-    by_test (λ (r : Result ℕ JobKind). r ≡ Ok pages → IsLine words (Storage pages)) (begins_with (codes "storage") words) _ _
-    (λ first is. asked_pages words pages (asked_of words) refl is) (λ other is. cc)
-
 -- the job is what is said from a line on
-record IsSaid (n : ℕ) (job : Job) (says : List Said) : Type 0 where
-  is : job ≡ job_said n says
-  assembled : AreAssembled says
+pub record IsSaid (n : ℕ) (job : Job) (says : List Said) : Type 0 where
+  pub is : job ≡ job_said n says
+  pub counted : harts_lines says ≤ 1
+  pub assembled : AreAssembled says
 
 -- a line that says nothing
 more_said : (n : ℕ) (job : Job) (says : List Said) → IsSaid (n + 1) job says → IsSaid n job (Nothing ∷ says)
-more_said n job says is = record { is = is.is; assembled = (tt, is.assembled) }
+more_said n job says is = record { is = is.is; counted = (let c : harts_lines says ≤ 1 = is.counted in omega (arith, c)); assembled = (tt, is.assembled) }
 
 storage_good : (lines : List (List ℕ)) (n : ℕ) → Good BeforeStorage n lines (IsSaid n) (storage_from n lines)
 unfolding storage_from
@@ -254,9 +253,9 @@ storage_good (line ∷ lines) n =
     let G = λ (r : Result Job (ℕ × JobKind)). Good BeforeStorage n (line ∷ lines) (IsSaid n) r in
     unless G (is_allowed line) _ _ (λ no. stops BeforeStorage n (line ∷ lines)) (λ allowed.
     unless G (has_words line) _ _ (λ none. step BeforeStorage BeforeStorage n line lines Nothing (IsSaid n) (IsSaid (n + 1)) (NoWords tt allowed (no_words line none)) (more_said n) (storage_from (n + 1) lines) (storage_good lines (n + 1))) (λ some.
-    by_result (λ (r : Result ℕ JobKind). Good BeforeStorage n (line ∷ lines) (IsSaid n) (storage_with n lines r)) (storage_pages (words_of line))
-    (λ pages is. step BeforeStorage AmongDirectives n line lines (Directed (Storage pages)) (IsSaid n) (IsBehind (draft_of pages) false lines (n + 1)) (StorageLine pages allowed (pages_line (words_of line) pages is))
-    (λ job says behind. record { is = behind.is; assembled = (tt, behind.assembled) })
+    by_result (λ (r : Result ℕ JobKind). Good BeforeStorage n (line ∷ lines) (IsSaid n) (behind_storage n lines r)) (storage_line_of (words_of line))
+    (λ pages is. step BeforeStorage AmongDirectives n line lines (StorageOf pages) (IsSaid n) (IsBehind (draft_of pages) false lines (n + 1)) (StorageLine pages allowed (storage_formed (words_of line) pages is))
+    (λ job says behind. record { is = behind.is; counted = (let c = behind.counted in omega (arith, c)); assembled = (tt, behind.assembled) })
     (body_from (draft_of pages) false (n + 1) lines) (body_good lines (draft_of pages) false (n + 1) (λ image. cc)))
     (λ kind is. stops BeforeStorage n (line ∷ lines))))
 
@@ -276,19 +275,36 @@ text_good : (text : List ℕ) → Good BeforeHeader 1 (lines_of text) (IsSaid 1)
 unfolding job_of
 text_good text = header_good (lines_of text) 1
 
-told_of : (lines : List (List ℕ)) (job : Job) → Whole BeforeHeader lines (IsSaid 1 job) → IsTold lines job
-told_of lines job whole = record {
+within : (job : Job) (says : List Said) → job ≡ job_said 1 says → harts_lines says ≤ 1 → IsReadJob job → IsWithin says
+within job says is one read =
+    let r = subst IsReadJob is read in
+    record {
+      harts = one;
+      machines = r.is.machines;
+      watches = r.is.watches;
+      dumps = r.is.dumps;
+      images = r.is.images;
+      steps = r.steps;
+      events = r.many;
+      commands = r.is.commanded;
+      breaks = r.is.breaks;
+    }
+
+told_of : (lines : List (List ℕ)) (job : Job) → IsReadJob job → Whole BeforeHeader lines (IsSaid 1 job) → IsTold lines job
+told_of lines job read whole = record {
   says = whole.says;
   place = whole.place;
   goes_on = whole.goes_on;
   over = whole.over;
   assembled = whole.holds.assembled;
+  within = within job whole.says whole.holds.is whole.holds.counted read;
   is = whole.holds.is;
 }
 
-pub accepted : AcceptedTextLaw
+pub accepted : (text : List ℕ) (job : Job) → job_of text ≡ Ok job → IsTold (lines_of text) job
 accepted text job is =
-    told_of (lines_of text) job (subst (λ (r : Result Job (ℕ × JobKind)). Good BeforeHeader 1 (lines_of text) (IsSaid 1) r) is (text_good text))
+    told_of (lines_of text) job (text_is text job is)
+    (subst (λ (r : Result Job (ℕ × JobKind)). Good BeforeHeader 1 (lines_of text) (IsSaid 1) r) is (text_good text))
 
 good_before : (lines : List (List ℕ)) (number : ℕ) → Stops BeforeHeader 1 lines number → AreGoodBefore lines number
 good_before lines number stop =

@@ -2,9 +2,9 @@
 use Rattle.std.proofs.Common.{◌≡◌, ◌≢◌, ◌⊎◌, ℕ, nat_lt, Bool, true, false, cond, codes, List, [], ◌∷◌, length, find, Some, inl, inr, refl, sym, ap, ◌∙◌, subst, arith}
 use Rattle.std.proofs.lemmas.Bool.{lt-ltb}
 use Rattle.hv_job.specs.JobOf.{is_debug, is_end}
-use Rattle.hv_job.specs.Lines.{begins_with, has_words, words_of}
-use Rattle.hv_job.specs.declared.job.DebugCommand.{DebugCommand}
-use Rattle.hv_grammar.specs.Forms.{AreWords, Call, Form, IsCall, IsLine, Storage, Harts, Image, StepCall, call_words, form_words}
+use Rattle.hv_line.specs.Lines.{begins_with, has_words, words_of}
+use Rattle.hv_line.specs.declared.types.DebugCommand.{DebugCommand}
+use Rattle.hv_grammar.specs.Forms.{AreWords, Call, Form, IsCall, IsLine, IsStorageLine, Harts, Image, Fixed, Spelt, StepCall, call_words, form_words}
 use Rattle.hv_grammar.specs.Said.{Said}
 use Rattle.hv_grammar.specs.Texts.{Goes, GoesOn, IsAllowed, IsAlone, IsOutside, IsOver, IsPlain, Place, AmongCommands, AmongDirectives, BeforeHeader, BeforeStorage, InsideImage, NoWords, Header, StorageLine, DirectiveLine, ImageLine, InnerLine, EndLine, DebugLine, CommandLine}
 use Rattle.hv_grammar.proofs.Inside.{Ends}
@@ -19,7 +19,7 @@ abbrev pub Way : Place → List ℕ → Place → Type 0
 Way BeforeHeader line next =
     (IsBlank line × next ≡ BeforeHeader) ⊎ (IsAllowed line × words_of line ≡ codes "job" ∷ codes "1" ∷ [] × next ≡ BeforeStorage)
 Way BeforeStorage line next =
-    (IsBlank line × next ≡ BeforeStorage) ⊎ ((pages : ℕ) × IsAllowed line × IsLine (words_of line) (Storage pages) × next ≡ AmongDirectives)
+    (IsBlank line × next ≡ BeforeStorage) ⊎ ((pages : ℕ) × IsAllowed line × IsStorageLine (words_of line) pages × next ≡ AmongDirectives)
 Way AmongDirectives line next =
     (IsBlank line × next ≡ AmongDirectives)
     ⊎ (((form : Form) × IsPlain form × IsAllowed line × IsLine (words_of line) form × next ≡ AmongDirectives)
@@ -66,14 +66,12 @@ ends_at [] (said ∷ says) to over on = absurd on
 ends_at (line ∷ lines) [] to over on = absurd on
 
 -- what a line of a form begins with
-pub not_begun : (form : Form) (words : List (List ℕ)) → IsPlain form ⊎ ((name : List ℕ) × (at : ℕ) × form ≡ Image name at) → AreWords (form_words form) words → (begins_with (codes "storage") words ≡ false) × (begins_with (codes "debug") words ≡ false)
+pub not_begun : (form : Form) (words : List (List ℕ)) → AreWords (form_words form) words → begins_with (codes "debug") words ≡ false
 unfolding begins_with
-not_begun (Storage pages) words (inl plain) are = absurd plain
-not_begun (Storage pages) words (inr image) are = let e = image.2 in cc
-not_begun (Harts harts) (w ∷ ws) one are = (ap (λ w. begins_with (codes "storage") (w ∷ ws)) are.0, ap (λ w. begins_with (codes "debug") (w ∷ ws)) are.0)
-not_begun (Harts harts) [] one are = absurd are
-not_begun form (w ∷ ws) one are = (ap (λ w. begins_with (codes "storage") (w ∷ ws)) are.0, ap (λ w. begins_with (codes "debug") (w ∷ ws)) are.0)
-not_begun form [] one are = absurd are
+not_begun (Harts harts) (w ∷ ws) are = ap (λ w. begins_with (codes "debug") (w ∷ ws)) are.0
+not_begun (Harts harts) [] are = absurd are
+not_begun form (w ∷ ws) are = ap (λ w. begins_with (codes "debug") (w ∷ ws)) are.0
+not_begun form [] are = absurd are
 
 pub not_debug : (line : List ℕ) → begins_with (codes "debug") (words_of line) ≡ false → is_debug line ≡ false
 unfolding begins_with
@@ -102,10 +100,17 @@ pub some_words : (line : List ℕ) (form : Form) → IsLine (words_of line) form
 some_words line form is = go form (words_of line) is.written
   where
     go : (form : Form) (words : List (List ℕ)) → AreWords (form_words form) words → nat_lt 0 (length words) ≡ true
-    go (Storage pages) [] are = absurd are
-    go (Storage pages) (w ∷ ws) are = lt-ltb 0 (length (w ∷ ws)) (omega arith)
+    go (Harts harts) [] are = absurd are
+    go (Harts harts) (w ∷ ws) are = lt-ltb 0 (length (w ∷ ws)) (omega arith)
     go form [] are = absurd are
     go form (w ∷ ws) are = lt-ltb 0 (length (w ∷ ws)) (omega arith)
+
+pub some_pages : (line : List ℕ) (pages : ℕ) → IsStorageLine (words_of line) pages → has_words line ≡ true
+some_pages line pages is = go (words_of line) is.written
+  where
+    go : (words : List (List ℕ)) → AreWords (Fixed (codes "storage") ∷ Spelt pages ∷ []) words → nat_lt 0 (length words) ≡ true
+    go [] are = absurd are
+    go (w ∷ ws) are = lt-ltb 0 (length (w ∷ ws)) (omega arith)
 
 pub some_call : (line : List ℕ) (what : DebugCommand) → IsCall (words_of line) what → has_words line ≡ true
 some_call line what is = go is.call (words_of line) is.written

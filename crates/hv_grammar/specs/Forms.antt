@@ -1,13 +1,19 @@
 -- What a line of a job may be, as it is written: one form for each line of the table, with its words and its ranges.
-use Rattle.std.specs.Prelude.{◌≡◌, ◌⊎◌, ◌↔◌, ℕ, ◌%◌, ◌^◌, ◌<◌, ◌≤◌, true, bit_and, List, [], ◌∷◌, map, length, codes, Some, Ok, IsOk}
+use Rattle.std.specs.Prelude.{◌≡◌, ◌⊎◌, ◌↔◌, ℕ, ◌+◌, ◌*◌, ◌%◌, ◌^◌, ◌<◌, ◌≤◌, true, bit_and, List, [], ◌∷◌, map, length, codes, Some, Ok}
+use Rattle.hv_irq.specs.declared.Event.TheVariants as event
 use Rattle.hv_lex.specs.Numbers.{number_of}
+use Rattle.hv_limits.specs.Limits.{lines_mask, pages_limit, steps_limit}
 use Rattle.hv_samples.specs.declared.choice.Sample.{Sample}
 use Rattle.hv_samples.specs.declared.choice.Sample.TheVariants.{Pass, Slicer, Forward, Pager}
-use Rattle.hv_job.specs.Asked.{asked_of}
-use Rattle.hv_job.specs.Commands.{command_of}
-use Rattle.hv_job.specs.Names.{is_name}
-use Rattle.hv_job.specs.declared.job.DebugCommand.{DebugCommand}
-use Rattle.hv_job.specs.declared.job.DebugCommand.TheVariants as command
+use Rattle.hv_line.specs.Commands.{command_of}
+use Rattle.hv_line.specs.JobLimits.{job_depth, job_harts, job_values}
+use Rattle.hv_line.specs.Names.{is_name}
+use Rattle.hv_line.specs.Statements.{statement_of, storage_line_of}
+use Rattle.hv_line.specs.declared.types.DebugCommand.{DebugCommand}
+use Rattle.hv_line.specs.declared.types.DebugCommand.TheVariants as command
+use Rattle.hv_line.specs.declared.types.Directive.TheVariants as directive
+use Rattle.hv_line.specs.declared.types.Statement.{Statement}
+use Rattle.hv_line.specs.declared.types.Statement.TheVariants as states
 
 -- a word of a form: this text, this name, or this number, decimal or in hexadecimal behind `0x`
 pub data Word : Type 0 where
@@ -26,10 +32,17 @@ AreWords [] [] = Unit {0}
 AreWords (is ∷ rest) (word ∷ words) = IsWord is word × AreWords rest words
 AreWords _ _ = ⊥
 
--- A line as it is written.
+-- the words of a line `storage P`, with P in its range
+pub record IsStorageLine (words : List (List ℕ)) (pages : ℕ) : Type 0 where
+  pub range : (1 ≤ pages) × (pages ≤ pages_limit)
+  pub written : AreWords (Fixed (codes "storage") ∷ Spelt pages ∷ []) words
+
+-- the second line of a job with words has these pages exactly where its words are `storage` and their number
+abbrev pub StorageFormLaw : Type 0
+StorageFormLaw = (words : List (List ℕ)) (pages : ℕ) → (storage_line_of words ≡ Ok pages) ↔ IsStorageLine words pages
+
+-- A line among the directives as it is written.
 pub data Form : Type 0 where
-  -- storage P
-  Storage : (pages : ℕ) → Form
   -- harts N
   Harts : (harts : ℕ) → Form
   -- hart H A
@@ -71,7 +84,6 @@ sample_word Forward = codes "forward"
 sample_word Pager = codes "pager"
 
 abbrev pub form_words : Form → List Word
-form_words (Storage pages) = Fixed (codes "storage") ∷ Spelt pages ∷ []
 form_words (Harts harts) = Fixed (codes "harts") ∷ Spelt harts ∷ []
 form_words (Hart hart at) = Fixed (codes "hart") ∷ Spelt hart ∷ Spelt at ∷ []
 form_words (Machine name parent block pages table at) =
@@ -94,24 +106,23 @@ form_words (Dump name page) = Fixed (codes "dump") ∷ Named name ∷ Spelt page
 
 -- the values are in their ranges
 abbrev pub IsInRange : Form → Type 0
-IsInRange (Storage pages) = (1 ≤ pages) × (pages ≤ 16384)
-IsInRange (Harts harts) = (1 ≤ harts) × (harts ≤ 4)
-IsInRange (Hart hart at) = (hart ≤ 3) × (at % 4 ≡ 0)
+IsInRange (Harts harts) = (1 ≤ harts) × (harts ≤ job_harts)
+IsInRange (Hart hart at) = (hart < job_harts) × (at % 4 ≡ 0)
 IsInRange (Machine name parent block pages table at) =
-    (1 ≤ block) × (block < 2 ^ 20) × (1 ≤ pages) × (pages ≤ 16384) × (table < 2 ^ 20) × (at < 2 ^ 20)
+    (1 ≤ block) × (block < 2 ^ 20) × (1 ≤ pages) × (pages ≤ pages_limit) × (table < 2 ^ 20) × (at < 2 ^ 20)
 IsInRange (MapNone name page) = page < 2 ^ 20
 IsInRange (MapRead name page at) = (page < 2 ^ 20) × (at < 2 ^ 20)
 IsInRange (MapWrite name page at) = (page < 2 ^ 20) × (at < 2 ^ 20)
 IsInRange (Start name at) = at % 4 ≡ 0
 IsInRange (Image name at) = at % 4 ≡ 0
 IsInRange (Sampled name at which) = at % 4 ≡ 0
-IsInRange (Words name at values) = (at % 4 ≡ 0) × (1 ≤ length values) × (length values ≤ 8)
-IsInRange (Tower depth pages) = (depth ≤ 8) × (1 ≤ pages) × (pages ≤ 16384)
+IsInRange (Words name at values) = (at % 4 ≡ 0) × (1 ≤ length values) × (length values ≤ job_values)
+IsInRange (Tower depth pages) = (depth ≤ job_depth) × (1 ≤ pages) × (pages ≤ pages_limit)
 IsInRange (TowerOf depth pages which) =
-    (depth ≤ 8) × (1 ≤ pages) × (pages ≤ 16384) × ((which ≡ Pass) ⊎ (which ≡ Forward))
-IsInRange (Turn hart count) = (hart ≤ 3) × (1 ≤ count) × (count ≤ 1000000000)
-IsInRange (Lines hart mask) = (hart ≤ 3) × (bit_and mask 0x888 ≡ mask)
-IsInRange (Watch hart name) = hart ≤ 3
+    (depth ≤ job_depth) × (1 ≤ pages) × (pages ≤ pages_limit) × ((which ≡ Pass) ⊎ (which ≡ Forward))
+IsInRange (Turn hart count) = (hart < job_harts) × (1 ≤ count) × (count ≤ steps_limit)
+IsInRange (Lines hart mask) = (hart < job_harts) × (bit_and mask lines_mask ≡ mask)
+IsInRange (Watch hart name) = hart < job_harts
 IsInRange (Dump name page) = page < 2 ^ 20
 
 -- words of a form, in its range
@@ -119,9 +130,35 @@ pub record IsLine (words : List (List ℕ)) (form : Form) : Type 0 where
   pub range : IsInRange form
   pub written : AreWords (form_words form) words
 
--- a line asks for something exactly where its words are those of a form
+-- What a form says. An entry of a map has its bit 0 set where the page is there, and its bit 1 where it may be written.
+abbrev pub states_for : Form → Statement
+states_for (Harts harts) = states.Harts harts
+states_for (Hart hart at) = states.Directive (directive.Hart hart at)
+states_for (Machine name parent block pages table at) =
+    states.Directive (directive.Machine name parent block pages table at)
+states_for (MapNone name page) = states.Directive (directive.Map name page 0)
+states_for (MapRead name page at) = states.Directive (directive.Map name page (at * 4096 + 1))
+states_for (MapWrite name page at) = states.Directive (directive.Map name page (at * 4096 + 3))
+states_for (Start name at) = states.Directive (directive.Start name at)
+states_for (Image name at) = states.Image name at
+states_for (Sampled name at which) = states.Sample name at which
+states_for (Words name at values) = states.Directive (directive.Word name at values)
+states_for (Tower depth pages) = states.Directive (directive.Tower depth pages Pass)
+states_for (TowerOf depth pages which) = states.Directive (directive.Tower depth pages which)
+states_for (Turn hart count) = states.Event (event.Turn hart count)
+states_for (Lines hart mask) = states.Event (event.Lines hart mask)
+states_for (Watch hart name) = states.Directive (directive.Watch hart name)
+states_for (Dump name page) = states.Directive (directive.Dump name page)
+
+-- words that say this
+pub record IsSaying (words : List (List ℕ)) (what : Statement) : Type 0 where
+  pub form : Form
+  pub line : IsLine words form
+  pub states : states_for form ≡ what
+
+-- a line says something exactly where its words are those of a form that says it
 abbrev pub LineFormLaw : Type 0
-LineFormLaw = (words : List (List ℕ)) → IsOk (asked_of words) ↔ (form : Form) × IsLine words form
+LineFormLaw = (words : List (List ℕ)) (what : Statement) → (statement_of words ≡ Ok what) ↔ IsSaying words what
 
 -- A command of the debugger as it is written.
 pub data Call : Type 0 where
@@ -150,11 +187,11 @@ call_words (MapCall name page) = Fixed (codes "map") ∷ Named name ∷ Spelt pa
 call_words FaultsCall = Fixed (codes "faults") ∷ []
 
 abbrev pub IsCallInRange : Call → Type 0
-IsCallInRange (StepCall count) = (1 ≤ count) × (count ≤ 1000000000)
+IsCallInRange (StepCall count) = (1 ≤ count) × (count ≤ steps_limit)
 IsCallInRange (BreakCall name at) = Unit {0}
 IsCallInRange (RegsCall name) = Unit {0}
 IsCallInRange (MemCall name at) = at % 4 ≡ 0
-IsCallInRange (PathCall hart) = hart ≤ 3
+IsCallInRange (PathCall hart) = hart < job_harts
 IsCallInRange (MapCall name page) = page < 2 ^ 20
 IsCallInRange FaultsCall = Unit {0}
 
@@ -174,5 +211,6 @@ pub record IsCall (words : List (List ℕ)) (what : DebugCommand) : Type 0 where
   pub written : AreWords (call_words call) words
   pub calls : calls_for call ≡ what
 
+-- a line is a command exactly where its words are those of a form of that command
 abbrev pub CommandFormLaw : Type 0
 CommandFormLaw = (words : List (List ℕ)) (what : DebugCommand) → (command_of words ≡ Ok what) ↔ IsCall words what

@@ -6,20 +6,22 @@ use Rattle.hv_irq.specs.declared.Event.{Event}
 use Rattle.hv_irq.specs.declared.Event.TheVariants as event
 use Rattle.hv_samples.specs.Samples.{sample_text}
 use Rattle.hv_samples.specs.declared.choice.Sample.TheVariants.{Pass}
-use Rattle.hv_job.specs.Commands.{joined}
+use Rattle.hv_line.specs.Commands.{join_words_of}
 use Rattle.hv_job.specs.JobOf.{image_words}
-use Rattle.hv_job.specs.declared.job.DebugCommand.{DebugCommand}
+use Rattle.hv_line.specs.declared.types.DebugCommand.{DebugCommand}
 use Rattle.hv_job.specs.declared.job.DebugLine.{DebugLine}
-use Rattle.hv_job.specs.declared.job.Directive.{Directive}
-use Rattle.hv_job.specs.declared.job.Directive.TheVariants as directive
+use Rattle.hv_line.specs.declared.types.Directive.{Directive}
+use Rattle.hv_line.specs.declared.types.Directive.TheVariants as directive
 use Rattle.hv_job.specs.declared.job.Job.{Job}
 use Rattle.hv_job.specs.declared.job.Placed.{Placed}
-use Rattle.hv_grammar.specs.Forms.{Form, Storage, Harts, Hart, Machine, MapNone, MapRead, MapWrite, Start, Image, Sampled, Words, Tower, TowerOf, Turn, Lines, Watch, Dump}
+use Rattle.hv_grammar.specs.Forms.{Form, Harts, Hart, Machine, MapNone, MapRead, MapWrite, Start, Image, Sampled, Words, Tower, TowerOf, Turn, Lines, Watch, Dump}
 
 -- What a line says.
 pub data Said : Type 0 where
   -- nothing, as the header, the end of an image, `debug` and a line without words do
   Nothing : Said
+  -- the storage
+  StorageOf : (pages : ℕ) → Said
   -- a directive
   Directed : (form : Form) → Said
   -- a line of assembly
@@ -37,13 +39,13 @@ abbrev pub inner_lines : List Said → List (List ℕ)
 inner_lines (Inner line ∷ says) = line ∷ inner_lines says
 inner_lines [] = []
 inner_lines (Nothing ∷ says) = []
+inner_lines (StorageOf pages ∷ says) = []
 inner_lines (Directed form ∷ says) = []
 inner_lines (Called words what ∷ says) = []
 
--- The directives of a form; what is said behind it has the lines of its image. An entry of a map has its bit 0 set where the
--- page is there, and its bit 1 where it may be written.
+-- The directives of a form; what is said behind it has the lines of its image. An entry of a map has its bit 0 set
+-- where the page is there, and its bit 1 where it may be written.
 abbrev pub directives_by : Form → List Said → List Directive
-directives_by (Storage pages) behind = []
 directives_by (Harts harts) behind = []
 directives_by (Hart hart at) behind = directive.Hart hart at ∷ []
 directives_by (Machine name parent block pages table at) behind =
@@ -104,7 +106,7 @@ events_said [] = []
 events_said (said ∷ says) = events_by said ++ events_said says
 
 abbrev pub pages_by : Said → ℕ → ℕ
-pages_by (Directed (Storage pages)) behind = pages
+pages_by (StorageOf pages) behind = pages
 pages_by _ behind = behind
 
 -- the pages of the storage
@@ -122,7 +124,7 @@ harts_said [] = None
 harts_said (said ∷ says) = harts_by said (harts_said says)
 
 abbrev pub commands_by : ℕ → Said → List DebugLine
-commands_by number (Called words what) = record { line = number; words = joined words; what = what } ∷ []
+commands_by number (Called words what) = record { line = number; words = join_words_of words; what = what } ∷ []
 commands_by number _ = []
 
 -- the commands, from the line of this number on

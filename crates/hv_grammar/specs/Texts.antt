@@ -1,15 +1,16 @@
--- The way of a text through its places, line by line: the header, the storage, the directives with the images among them, and
--- then the commands of the debugger.
-use Rattle.std.specs.Prelude.{◌≡◌, ◌≢◌, ℕ, ◌-◌, ◌≤◌, true, List, [], ◌∷◌, length, take, codes, Ok, Err}
+-- The way of a text through its places, line by line: the header, the storage, the directives with the images among
+-- them, and then the commands of the debugger.
+use Rattle.std.specs.Prelude.{◌≡◌, ◌≢◌, ◌↔◌, ℕ, ◌-◌, ◌≤◌, true, List, [], ◌∷◌, length, take, codes, Ok, Err}
 use Rattle.hv_lex.specs.Lines.{lines_of}
 use Rattle.hv_job.specs.JobOf.{job_of}
-use Rattle.hv_job.specs.Lines.{is_allowed, words_of}
-use Rattle.hv_job.specs.declared.ends.JobKind.{JobKind}
-use Rattle.hv_job.specs.declared.ends.JobKind.TheVariants as fault
-use Rattle.hv_job.specs.declared.job.DebugCommand.{DebugCommand}
+use Rattle.hv_line.specs.Lines.{is_allowed, words_of}
+use Rattle.hv_line.specs.declared.kinds.JobKind.{JobKind}
+use Rattle.hv_line.specs.declared.kinds.JobKind.TheVariants as fault
+use Rattle.hv_line.specs.declared.types.DebugCommand.{DebugCommand}
 use Rattle.hv_job.specs.declared.job.Job.{Job}
-use Rattle.hv_grammar.specs.Said.{AreAssembled, Said, Called, Directed, Inner, Nothing, job_said}
-use Rattle.hv_grammar.specs.Forms.{Form, Image, Storage, IsCall, IsLine}
+use Rattle.hv_grammar.specs.Said.{AreAssembled, Said, Called, Directed, Inner, Nothing, StorageOf, job_said}
+use Rattle.hv_grammar.specs.Within.{IsWithin}
+use Rattle.hv_grammar.specs.Forms.{Form, Image, IsCall, IsLine, IsStorageLine}
 
 -- where a line stands
 pub data Place : Type 0 where
@@ -24,9 +25,8 @@ abbrev pub IsOutside : Place → Type 0
 IsOutside InsideImage = ⊥
 IsOutside _ = Unit {0}
 
--- a directive on one line that isn't the storage's
+-- a directive on one line
 abbrev pub IsPlain : Form → Type 0
-IsPlain (Storage pages) = ⊥
 IsPlain (Image name at) = ⊥
 IsPlain _ = Unit {0}
 
@@ -41,23 +41,31 @@ IsAlone text line = words_of line ≡ text ∷ []
 -- from which place a line goes to which, and what it says
 pub data Goes : Place → List ℕ → Said → Place → Type 0 where
   -- blanks, or a comment
-  NoWords : {place : Place} {line : List ℕ} → IsOutside place → IsAllowed line → words_of line ≡ [] → Goes place line Nothing place
+  NoWords : {place : Place} {line : List ℕ} → IsOutside place → IsAllowed line → words_of line ≡ []
+      → Goes place line Nothing place
   -- job 1
-  Header : {line : List ℕ} → IsAllowed line → words_of line ≡ codes "job" ∷ codes "1" ∷ [] → Goes BeforeHeader line Nothing BeforeStorage
+  Header : {line : List ℕ} → IsAllowed line → words_of line ≡ codes "job" ∷ codes "1" ∷ []
+      → Goes BeforeHeader line Nothing BeforeStorage
   -- storage P
-  StorageLine : {line : List ℕ} (pages : ℕ) → IsAllowed line → IsLine (words_of line) (Storage pages) → Goes BeforeStorage line (Directed (Storage pages)) AmongDirectives
+  StorageLine : {line : List ℕ} (pages : ℕ) → IsAllowed line → IsStorageLine (words_of line) pages
+      → Goes BeforeStorage line (StorageOf pages) AmongDirectives
   -- any other directive but an image
-  DirectiveLine : {line : List ℕ} (form : Form) → IsPlain form → IsAllowed line → IsLine (words_of line) form → Goes AmongDirectives line (Directed form) AmongDirectives
+  DirectiveLine : {line : List ℕ} (form : Form) → IsPlain form → IsAllowed line → IsLine (words_of line) form
+      → Goes AmongDirectives line (Directed form) AmongDirectives
   -- image NAME A
-  ImageLine : {line : List ℕ} (name : List ℕ) (at : ℕ) → IsAllowed line → IsLine (words_of line) (Image name at) → Goes AmongDirectives line (Directed (Image name at)) InsideImage
+  ImageLine : {line : List ℕ} (name : List ℕ) (at : ℕ) → IsAllowed line → IsLine (words_of line) (Image name at)
+      → Goes AmongDirectives line (Directed (Image name at)) InsideImage
   -- a line of assembly
   InnerLine : {line : List ℕ} → words_of line ≢ codes "end" ∷ [] → Goes InsideImage line (Inner line) InsideImage
   -- end
-  EndLine : {line : List ℕ} → IsAllowed line → IsAlone (codes "end") line → Goes InsideImage line Nothing AmongDirectives
+  EndLine : {line : List ℕ} → IsAllowed line → IsAlone (codes "end") line
+      → Goes InsideImage line Nothing AmongDirectives
   -- debug
-  DebugLine : {line : List ℕ} → IsAllowed line → IsAlone (codes "debug") line → Goes AmongDirectives line Nothing AmongCommands
+  DebugLine : {line : List ℕ} → IsAllowed line → IsAlone (codes "debug") line
+      → Goes AmongDirectives line Nothing AmongCommands
   -- a command
-  CommandLine : {line : List ℕ} (what : DebugCommand) → IsAllowed line → IsCall (words_of line) what → Goes AmongCommands line (Called (words_of line) what) AmongCommands
+  CommandLine : {line : List ℕ} (what : DebugCommand) → IsAllowed line → IsCall (words_of line) what
+      → Goes AmongCommands line (Called (words_of line) what) AmongCommands
 
 -- from which place lines go to which, one after another, and what they say
 abbrev pub GoesOn : Place → List (List ℕ) → List Said → Place → Type 0
@@ -71,20 +79,24 @@ IsOver AmongDirectives = Unit {0}
 IsOver AmongCommands = Unit {0}
 IsOver _ = ⊥
 
--- the lines go through the places from the header on, and the job is what they say
+-- the lines go through the places from the header on, what they assemble is assembled, the limits are kept, and the
+-- job is what they say
 pub record IsTold (lines : List (List ℕ)) (job : Job) : Type 0 where
   pub says : List Said
   pub place : Place
   pub goes_on : GoesOn BeforeHeader lines says place
   pub over : IsOver place
   pub assembled : AreAssembled says
+  pub within : IsWithin says
   pub is : job ≡ job_said 1 says
 
-abbrev pub AcceptedTextLaw : Type 0
-AcceptedTextLaw = (text : List ℕ) (job : Job) → job_of text ≡ Ok job → IsTold (lines_of text) job
+-- a text is a job exactly where its lines go all the way and say it, what they assemble is assembled, and the limits
+-- are kept
+abbrev pub JobTextLaw : Type 0
+JobTextLaw = (text : List ℕ) (job : Job) → (job_of text ≡ Ok job) ↔ IsTold (lines_of text) job
 
--- The lines of a refused text in front of the line of this number, which is one of its lines, or would stand right behind the
--- last one.
+-- The lines of a refused text in front of the line of this number, which is one of its lines, or would stand right
+-- behind the last one.
 pub record AreGoodBefore (lines : List (List ℕ)) (number : ℕ) : Type 0 where
   pub some : 1 ≤ number
   pub within : number - 1 ≤ length lines
@@ -98,8 +110,8 @@ RefusedTextLaw =
     → job_of text ≡ Err (number, kind)
     → AreGoodBefore (lines_of text) number
 
--- what a text may still be refused for where all of its lines have their forms and places: a limit, a second number of harts,
--- and what its images and samples are assembled to
+-- what a text may still be refused for where all of its lines have their forms and places: a limit, a second number of
+-- harts, and what its images and samples are assembled to
 abbrev pub IsLate : JobKind → Type 0
 IsLate fault.Many = Unit {0}
 IsLate fault.Repeat = Unit {0}

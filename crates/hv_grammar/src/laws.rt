@@ -1,11 +1,17 @@
 //! What a job's lines look like. Each function here is empty: it states one law, which is proved.
 
-ghost use Rattle.hv_grammar.specs.Forms.{CommandFormLaw, LineFormLaw};
-ghost use Rattle.hv_grammar.specs.Texts.{AcceptedTextLaw, RefusedTextLaw, ThroughTextLaw};
+ghost use Rattle.hv_grammar.specs.Forms.{CommandFormLaw, LineFormLaw, StorageFormLaw};
+ghost use Rattle.hv_grammar.specs.Texts.{JobTextLaw, RefusedTextLaw, ThroughTextLaw};
 
-/// A line asks for something exactly where its words are those of a form, with every value in its range.
+/// A line among the directives says something exactly where its words are those of a form that says it, with every value in
+/// its range.
 pub fn lines_are_their_forms()
     ensures { LineFormLaw }
+{}
+
+/// A line gives the pages of the storage exactly where its words are `storage` and their number, in its range.
+pub fn the_storage_is_its_form()
+    ensures { StorageFormLaw }
 {}
 
 /// A line is a command of the debugger exactly where its words are those of a form of that command, in range.
@@ -13,10 +19,11 @@ pub fn commands_are_their_forms()
     ensures { CommandFormLaw }
 {}
 
-/// The lines of a text that is a job go from the header through the storage, the directives and the images, and then perhaps
-/// through the commands; and the job is what they say, one after another.
-pub fn accepted_texts_go_through()
-    ensures { AcceptedTextLaw }
+/// A text is a job exactly where its lines go from the header through the storage, the directives and the images, and then
+/// perhaps through the commands, what they assemble is assembled, and the limits are kept; and the job is what they say, one
+/// after another.
+pub fn jobs_are_what_their_lines_say()
+    ensures { JobTextLaw }
 {}
 
 /// The lines of a refused text go this way up to the line that is refused.

@@ -3,20 +3,17 @@ use Rattle.std.proofs.Common.{◌≡◌, ℕ, ◌+◌, ◌≤◌, Bool, true, fa
 use Rattle.std.proofs.lemmas.Bool.{ltb-false}
 use Rattle.hv_lex.specs.Lines.{lines_of}
 use Rattle.std.specs.Prelude.{IsErrAnd}
-use Rattle.hv_job.specs.Asked.{asked_of}
+use Rattle.hv_line.specs.Statements.{statement_of, storage_line_of}
 use Rattle.hv_job.specs.Commands.{commands_from}
 use Rattle.hv_job.specs.Drafted.{GivesJob, Refuses}
-use Rattle.hv_job.specs.JobOf.{Answer, added, and_then, asked_with, at_line, begins_image, body_from, draft_of, header_from, is_debug, is_image, job_in, job_with, line_with, storage_from, storage_pages, storage_with}
-use Rattle.hv_job.specs.Lines.{has_words, is_allowed, is_header, words_of}
-use Rattle.hv_job.specs.declared.asked.Asked.{Asked}
-use Rattle.hv_job.specs.declared.asked.Asked.TheVariants as asks
+use Rattle.hv_job.specs.JobOf.{Answer, and_then, begins_image, body_from, draft_of, header_from, is_debug, is_image, job_in, job_with, line_with, storage_from, behind_storage}
+use Rattle.hv_line.specs.Lines.{has_words, is_allowed, is_header, words_of}
+use Rattle.hv_line.specs.declared.types.Statement.{Statement}
 use Rattle.hv_job.specs.declared.draft.Draft.{Draft}
-use Rattle.hv_job.specs.declared.draft.LineEnd.{LineEnd}
-use Rattle.hv_job.specs.declared.draft.LineEnd.TheVariants as lined
 use Rattle.hv_job.specs.declared.ends.JobEnd.{JobEnd}
 use Rattle.hv_job.specs.declared.ends.JobEnd.TheVariants.{JobFault, Memory}
-use Rattle.hv_job.specs.declared.ends.JobKind.{JobKind}
-use Rattle.hv_job.specs.declared.ends.JobKind.TheVariants as fault
+use Rattle.hv_line.specs.declared.kinds.JobKind.{JobKind}
+use Rattle.hv_line.specs.declared.kinds.JobKind.TheVariants as fault
 use Rattle.hv_job.specs.declared.job.DebugLine.{DebugLine}
 use Rattle.hv_job.specs.declared.job.Job.{Job}
 use Rattle.hv_job.proofs.Ending.{no_lines}
@@ -56,7 +53,7 @@ storage_end n s all none told = sym told ∙ ap (storage_from n) (no_lines s non
 module _ (n : ℕ) (s line behind : List ℕ) (all : Answer) (cut : lines_of s ≡ line ∷ lines_of behind) where
   abbrev place : (allowed words : Bool) → Answer
   place allowed words =
-      cond (not allowed) (Err (n, fault.Byte)) (cond (not words) (storage_from (n + 1) (lines_of behind)) (storage_with n (lines_of behind) (storage_pages (words_of line))))
+      cond (not allowed) (Err (n, fault.Byte)) (cond (not words) (storage_from (n + 1) (lines_of behind)) (behind_storage n (lines_of behind) (storage_line_of (words_of line))))
 
   storage_is : (allowed words : Bool) → is_allowed line ≡ allowed → has_words line ≡ words → storage_from n (lines_of s) ≡ place allowed words
   unfolding storage_from
@@ -68,11 +65,11 @@ module _ (n : ℕ) (s line behind : List ℕ) (all : Answer) (cut : lines_of s �
   pub storage_skip : storage_from n (lines_of s) ≡ all → is_allowed line ≡ true → has_words line ≡ false → storage_from (n + 1) (lines_of behind) ≡ all
   storage_skip told a w = sym (storage_is true false a w) ∙ told
 
-  pub storage_refused : (kind : JobKind) → storage_from n (lines_of s) ≡ all → is_allowed line ≡ true → has_words line ≡ true → storage_pages (words_of line) ≡ Err kind → all ≡ Err (n, kind)
-  storage_refused kind told a w p = sym told ∙ storage_is true true a w ∙ ap (storage_with n (lines_of behind)) p
+  pub storage_refused : (kind : JobKind) → storage_from n (lines_of s) ≡ all → is_allowed line ≡ true → has_words line ≡ true → storage_line_of (words_of line) ≡ Err kind → all ≡ Err (n, kind)
+  storage_refused kind told a w p = sym told ∙ storage_is true true a w ∙ ap (behind_storage n (lines_of behind)) p
 
-  pub storage_found : (pages : ℕ) → storage_from n (lines_of s) ≡ all → is_allowed line ≡ true → has_words line ≡ true → storage_pages (words_of line) ≡ Ok pages → all ≡ body_from (draft_of pages) false (n + 1) (lines_of behind)
-  storage_found pages told a w p = sym told ∙ storage_is true true a w ∙ ap (storage_with n (lines_of behind)) p
+  pub storage_found : (pages : ℕ) → storage_from n (lines_of s) ≡ all → is_allowed line ≡ true → has_words line ≡ true → storage_line_of (words_of line) ≡ Ok pages → all ≡ body_from (draft_of pages) false (n + 1) (lines_of behind)
+  storage_found pages told a w p = sym told ∙ storage_is true true a w ∙ ap (behind_storage n (lines_of behind)) p
 
 -- the lines behind it
 pub body_end : (draft : Draft) (n : ℕ) (s : List ℕ) (all : Answer) (commands : List DebugLine) (job : Job) → length s ≡ 0 → body_from draft false n (lines_of s) ≡ all → job ≡ job_in draft commands → commands ≡ [] → all ≡ Ok job
@@ -106,8 +103,8 @@ module _ (draft : Draft) (n : ℕ) (s line behind : List ℕ) (all : Answer) (cu
   body_stopped d Memory made = tt
 
 -- a line without words begins no image
-no_words : (words : List (List ℕ)) → nat_lt 0 (length words) ≡ false → is_image (asked_of words) ≡ false
-unfolding asked_of
+no_words : (words : List (List ℕ)) → nat_lt 0 (length words) ≡ false → is_image (statement_of words) ≡ false
+unfolding statement_of
 no_words [] e = refl
 no_words (w ∷ ws) e = let h : length (w ∷ ws) ≤ 0 = ltb-false 0 (length (w ∷ ws)) e in absurd (omega arith)
 
@@ -115,9 +112,9 @@ pub skipped : (line : List ℕ) → has_words line ≡ false → begins_image li
 unfolding begins_image
 skipped line e = no_words (words_of line) e
 
-pub begins : (line : List ℕ) (asked : Asked) → Ok asked ≡ asked_of (words_of line) → is_image (Ok asked) ≡ begins_image line
+pub begins : (line : List ℕ) (statement : Statement) → Ok statement ≡ statement_of (words_of line) → is_image (Ok statement) ≡ begins_image line
 unfolding begins_image
-begins line asked is = ap is_image is
+begins line statement is = ap is_image is
 
 -- a refusal that goes on as it is
 pub passes_on : (r : Result Job JobEnd) (end : JobEnd) (text : Answer) → IsErrAnd r (λ given. given ≡ end) → Refuses end text → GivesJob r text

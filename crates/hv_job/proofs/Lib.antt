@@ -6,8 +6,3 @@ pub mod Following
 pub mod Limiting
 pub mod Spanning
 pub mod Sampling
-pub mod Cutting
-pub mod Numbering
-pub mod Ranging
-pub mod Reading
-pub mod Shapes

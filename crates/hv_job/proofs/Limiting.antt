@@ -1,51 +1,57 @@
 -- The job of a text keeps the ranges and the limits.
-use Rattle.std.proofs.Common.{◌≡◌, ◌⊎◌, ℕ, ◌+◌, ◌*◌, ◌%◌, ◌^◌, ◌<◌, ◌≤◌, Bool, true, false, not, cond, codes, List, [], ◌∷◌, ◌++◌, length, map, Option, Some, None, Result, Ok, Err, refl, sym, ap, ◌∙◌, subst, arith, append-nil}
+use Rattle.std.proofs.Common.{◌≡◌, ℕ, ◌+◌, ◌%◌, ◌^◌, ◌<◌, ◌≤◌, Bool, true, false, not, cond, codes, List, [], ◌∷◌, ◌++◌, length, map, Option, Some, None, Result, Ok, Err, refl, sym, ap, ◌∙◌, subst, arith, append-nil, length-append}
 use Rattle.std.specs.Prelude.{All, IfOk, filter_map, find, unwrap_or}
 use Rattle.std.specs.List.{cons_option}
+use Rattle.std.proofs.lemmas.Bool.{leb-false, ltb-false}
 use Rattle.std.proofs.lemmas.List.{map-append}
+use Rattle.std.proofs.lemmas.List.Sums.{sum_by-append}
 use Rattle.std.proofs.lemmas.List.Elements.{All-append, All-cons, All-nil, filter_map-append}
 use Rattle.hv_asm.specs.Assembly.{asm_of}
 use Rattle.hv_asm.specs.declared.AsmKind.{AsmKind}
-use Rattle.hv_asm.specs.declared.Image.{Image}
 use Rattle.hv_asm.proofs.Extent.{asm_extent, lines_extent}
-use Rattle.hv_irq.specs.Events.{refusal_of}
+use Rattle.hv_irq.specs.Events.{hart_of, refusal_of, steps_of, total_of}
 use Rattle.hv_irq.specs.declared.Event.{Event}
 use Rattle.hv_irq.specs.declared.Event.TheVariants as event
 use Rattle.hv_irq.specs.declared.PushEnd.{PushEnd}
+use Rattle.hv_irq.specs.declared.PushEnd.TheVariants as pushed
+use Rattle.hv_limits.specs.Limits.{events_limit, steps_limit}
 use Rattle.hv_lex.specs.Lines.{lines_of}
 use Rattle.hv_samples.specs.Samples.{sample_text}
-use Rattle.hv_job.specs.Asked.{asked_of}
+use Rattle.hv_line.specs.JobLimits.{job_dumps, job_harts, job_image_bytes, job_machines, job_watches}
+use Rattle.hv_line.specs.Lines.{begins_with, has_words, is_allowed, is_header, words_of}
+use Rattle.hv_line.specs.Ranges.{IsImage, IsRanged, IsSize, IsStatement, has_event}
+use Rattle.hv_line.specs.Statements.{statement_of, storage_line_of}
+use Rattle.hv_line.specs.declared.kinds.JobKind.{JobKind}
+use Rattle.hv_line.specs.declared.kinds.JobKind.TheVariants as fault
+use Rattle.hv_line.specs.declared.types.Directive.{Directive}
+use Rattle.hv_line.specs.declared.types.Directive.TheVariants as directive
+use Rattle.hv_line.specs.declared.types.Statement.{Statement}
+use Rattle.hv_line.specs.declared.types.Statement.TheVariants as states
+use Rattle.hv_line.proofs.Ranging.{statement_ranged, storage_ranged}
 use Rattle.hv_job.specs.Commands.{commands_from}
 use Rattle.hv_job.specs.Drafted.{GivesJob}
-use Rattle.hv_job.specs.IsAsked.{IsAsked}
-use Rattle.hv_job.specs.IsJob.{IsImage, IsJob, IsRanged, IsSize, bytes_of, count_of, event_in, event_of, happening_of, image_bytes, is_dump, is_machine, is_watch}
-use Rattle.hv_job.specs.JobOf.{added, and_then, asked_with, at_line, before_end, begins_image, body_from, draft_of, event_with, happened, harts_with, header_from, image_added, image_of, image_with, image_words, is_debug, is_end, is_image, is_many, job_in, job_of, job_with, line_with, lines_with, pages_of, placed, sample_with, storage_from, storage_pages, storage_with, words_with}
-use Rattle.hv_job.specs.Lines.{begins_with, has_words, is_allowed, is_header, words_of}
-use Rattle.hv_job.specs.declared.asked.Asked.{Asked}
-use Rattle.hv_job.specs.declared.asked.Asked.TheVariants as asks
+use Rattle.hv_job.specs.IsJob.{IsJob, count_of, event_in, event_of, happening_of, image_bytes, is_dump, is_machine, is_watch}
+use Rattle.hv_job.specs.JobOf.{and_then, at_line, begins_image, before_end, behind_storage, body_from, directive_with, draft_of, draft_with, event_directive, event_with, harts_with, header_from, image_lines_with, image_of, image_with, image_words, is_debug, is_end, is_many, job_in, job_of, job_with, line_with, lines_with, sample_with, schedule_with, storage_from, words_with}
 use Rattle.hv_job.specs.declared.draft.Draft.{Draft}
 use Rattle.hv_job.specs.declared.ends.JobEnd.{JobEnd}
-use Rattle.hv_job.specs.declared.ends.JobKind.{JobKind}
-use Rattle.hv_job.specs.declared.ends.JobKind.TheVariants as fault
 use Rattle.hv_job.specs.declared.job.DebugLine.{DebugLine}
-use Rattle.hv_job.specs.declared.job.Directive.{Directive}
-use Rattle.hv_job.specs.declared.job.Directive.TheVariants as directive
 use Rattle.hv_job.specs.declared.job.Job.{Job}
 use Rattle.hv_job.specs.declared.job.Placed.{Placed}
 use Rattle.hv_job.proofs.Counting.{counted, sized, room_machines, room_watches, room_dumps, room_bytes}
 use Rattle.hv_job.proofs.Entering.{AreCommands, commands_are, no_commands}
-use Rattle.hv_job.proofs.Ranging.{asked_ranged}
 
 -- what the lines so far keep
 pub record IsDraft (draft : Draft) : Type 0 where
   pub pages : IsSize draft.pages
-  pub harts : (n : ℕ) → draft.harts ≡ Some n → (1 ≤ n) × (n ≤ 4)
+  pub harts : (n : ℕ) → draft.harts ≡ Some n → (1 ≤ n) × (n ≤ job_harts)
   pub lines : All (λ p. IsRanged p.what) draft.lines
   pub events : map happening_of draft.recording ≡ filter_map event_of draft.lines
-  pub machines : count_of is_machine draft.lines ≤ 256
-  pub watches : count_of is_watch draft.lines ≤ 16
-  pub dumps : count_of is_dump draft.lines ≤ 1024
-  pub images : image_bytes draft.lines ≤ 67108864
+  pub machines : count_of is_machine draft.lines ≤ job_machines
+  pub watches : count_of is_watch draft.lines ≤ job_watches
+  pub dumps : count_of is_dump draft.lines ≤ job_dumps
+  pub images : image_bytes draft.lines ≤ job_image_bytes
+  pub steps : total_of draft.recording ≤ steps_limit
+  pub many : length draft.recording ≤ events_limit
 
 draft_start : (pages : ℕ) → IsSize pages → IsDraft (draft_of pages)
 draft_start pages size = record {
@@ -57,6 +63,8 @@ draft_start pages size = record {
   watches = omega arith;
   dumps = omega arith;
   images = omega arith;
+  steps = omega arith;
+  many = omega arith;
 }
 
 all_one : (what : Directive) (n : ℕ) → IsRanged what → (lines : List Placed) → All (λ p. IsRanged p.what) lines → All (λ p. IsRanged p.what) (lines_with lines n what)
@@ -65,8 +73,8 @@ all_one what n ranged lines all =
     (All-cons (λ (p : Placed). IsRanged p.what) (record { line = n; what = what }) [] ranged (All-nil (λ (p : Placed). IsRanged p.what)))
 
 -- one more directive
-grown : (draft : Draft) (n : ℕ) (what : Directive) (recording : List Event) → IsDraft draft → is_many draft.lines what ≡ false → IsRanged what → map happening_of recording ≡ map happening_of draft.recording ++ cons_option (event_in what) [] → IsDraft (record draft { lines = lines_with draft.lines n what; recording = recording })
-grown draft n what recording is few ranged events = record {
+grown : (draft : Draft) (n : ℕ) (what : Directive) (recording : List Event) → IsDraft draft → is_many draft.lines what ≡ false → IsRanged what → map happening_of recording ≡ map happening_of draft.recording ++ cons_option (event_in what) [] → total_of recording ≤ steps_limit → length recording ≤ events_limit → IsDraft (record draft { lines = lines_with draft.lines n what; recording = recording })
+grown draft n what recording is few ranged events steps many = record {
   pages = is.pages;
   harts = is.harts;
   lines = all_one what n ranged draft.lines is.lines;
@@ -77,42 +85,65 @@ grown draft n what recording is few ranged events = record {
   watches = omega (arith, counted is_watch draft.lines n what, room_watches draft.lines what few is.watches);
   dumps = omega (arith, counted is_dump draft.lines n what, room_dumps draft.lines what few is.dumps);
   images = omega (arith, sized draft.lines n what, room_bytes draft.lines what few is.images);
+  steps = steps;
+  many = many;
 }
 
 ok_draft : (x y : Draft) → (let r : Result Draft JobKind = Ok x in r) ≡ Ok y → x ≡ y
 ok_draft x y is = cc
 
-placed_is : (draft new : Draft) (n : ℕ) (what : Directive) → IsDraft draft → IsRanged what → event_in what ≡ None → placed draft n what ≡ Ok new → IsDraft new
-unfolding placed
-placed_is draft new n what is ranged none made =
+directive_is : (draft new : Draft) (n : ℕ) (what : Directive) → IsDraft draft → IsRanged what → event_in what ≡ None → directive_with draft n what ≡ Ok new → IsDraft new
+unfolding directive_with
+directive_is draft new n what is ranged none made =
     elim (is_many draft.lines what) as (λ b. is_many draft.lines what ≡ b → (let r : Result Draft JobKind = cond b (Err fault.Many) (Ok (record draft { lines = lines_with draft.lines n what })) in r) ≡ Ok new → IsDraft new) [
       | true ↦ λ many made. cc
       | false ↦ λ few made.
           subst IsDraft (ok_draft _ new made)
           (grown draft n what draft.recording is few ranged
-          (sym (append-nil (map happening_of draft.recording)) ∙ ap (λ o. map happening_of draft.recording ++ cons_option o []) (sym none)))
+          (sym (append-nil (map happening_of draft.recording)) ∙ ap (λ o. map happening_of draft.recording ++ cons_option o []) (sym none)) is.steps is.many)
     ] refl made
 
-event_is : (draft new : Draft) (n : ℕ) (what : Directive) (event : Event) (refusal : Option PushEnd) → IsDraft draft → IsRanged what → is_many draft.lines what ≡ false → event_in what ≡ Some (happening_of event) → event_with draft n what event refusal ≡ Ok new → IsDraft new
-event_is draft new n what event (Some end) is ranged few some made = cc
-event_is draft new n what event None is ranged few some made =
+few_events : (lines : List Placed) (event : Event) → is_many lines (event_directive event) ≡ false
+unfolding is_many
+few_events lines (event.Turn hart count) = refl
+few_events lines (event.Lines hart mask) = refl
+
+beside : (event : Event) → event_in (event_directive event) ≡ Some (happening_of event)
+beside (event.Turn hart count) = refl
+beside (event.Lines hart mask) = refl
+
+ranged_beside : (event : Event) → hart_of event < job_harts → IsRanged (event_directive event)
+ranged_beside (event.Turn hart count) below = below
+ranged_beside (event.Lines hart mask) below = below
+
+-- an event that isn't refused keeps the limits of the schedule
+no_refusal : (hart mask steps many : Bool) → (let o : Option PushEnd = cond hart (Some pushed.Hart) (cond (not mask) (Some pushed.Mask) (cond steps (Some pushed.Steps) (cond many (Some pushed.Many) None))) in o) ≡ None → (steps ≡ false) × (many ≡ false)
+no_refusal true mask steps many is = cc
+no_refusal false false steps many is = cc
+no_refusal false true true many is = cc
+no_refusal false true false true is = cc
+no_refusal false true false false is = (refl, refl)
+
+one_event : (events : List Event) (event : Event) → refusal_of events event ≡ None → (total_of (events ++ event ∷ []) ≤ steps_limit) × (length (events ++ event ∷ []) ≤ events_limit)
+one_event events event is =
+    let r = no_refusal _ _ _ _ is in
+    let steps : total_of events + steps_of event ≤ steps_limit = ltb-false steps_limit (total_of events + steps_of event) r.0 in
+    let many : length events < events_limit = leb-false events_limit (length events) r.1 in
+    (omega (arith, steps, sum_by-append steps_of events (event ∷ [])), omega (arith, many, length-append events (event ∷ [])))
+
+event_is : (draft new : Draft) (n : ℕ) (event : Event) (refusal : Option PushEnd) → refusal_of draft.recording event ≡ refusal → IsDraft draft → hart_of event < job_harts → event_with draft n event refusal ≡ Ok new → IsDraft new
+event_is draft new n event (Some end) told is below made = cc
+event_is draft new n event None told is below made =
+    let fits = one_event draft.recording event told in
     subst IsDraft (ok_draft _ new made)
-    (grown draft n what (draft.recording ++ event ∷ []) is few ranged
-    (map-append happening_of draft.recording (event ∷ []) ∙ ap (λ o. map happening_of draft.recording ++ cons_option o []) (sym some)))
+    (grown draft n (event_directive event) (draft.recording ++ event ∷ []) is (few_events draft.lines event) (ranged_beside event below)
+    (map-append happening_of draft.recording (event ∷ []) ∙ ap (λ o. map happening_of draft.recording ++ cons_option o []) (sym (beside event))) fits.0 fits.1)
 
-happened_is : (draft new : Draft) (n : ℕ) (what : Directive) (event : Event) → IsDraft draft → IsRanged what → is_many draft.lines what ≡ false → event_in what ≡ Some (happening_of event) → happened draft n what event ≡ Ok new → IsDraft new
-unfolding happened
-happened_is draft new n what event is ranged few some made = event_is draft new n what event _ is ranged few some made
+schedule_is : (draft new : Draft) (n : ℕ) (event : Event) → IsDraft draft → hart_of event < job_harts → schedule_with draft n event ≡ Ok new → IsDraft new
+unfolding schedule_with
+schedule_is draft new n event is below made = event_is draft new n event _ refl is below made
 
-few_turns : (lines : List Placed) (hart : ℕ) → is_many lines (directive.Turn hart) ≡ false
-unfolding is_many
-few_turns lines hart = refl
-
-few_lines : (lines : List Placed) (hart : ℕ) → is_many lines (directive.Lines hart) ≡ false
-unfolding is_many
-few_lines lines hart = refl
-
-harts_is : (draft new : Draft) (harts : ℕ) (before : Option ℕ) → IsDraft draft → (1 ≤ harts) × (harts ≤ 4) → harts_with draft harts before ≡ Ok new → IsDraft new
+harts_is : (draft new : Draft) (harts : ℕ) (before : Option ℕ) → IsDraft draft → (1 ≤ harts) × (harts ≤ job_harts) → harts_with draft harts before ≡ Ok new → IsDraft new
 harts_is draft new harts (Some m) is ranged made = cc
 harts_is draft new harts None is ranged made =
     subst IsDraft (ok_draft _ new made) (record {
@@ -124,41 +155,27 @@ harts_is draft new harts None is ranged made =
       watches = is.watches;
       dumps = is.dumps;
       images = is.images;
+      steps = is.steps;
+      many = is.many;
     })
 
 sample_is : (draft new : Draft) (n at : ℕ) (name text : List ℕ) (r : Result (List ℕ) (ℕ × AsmKind)) → IsDraft draft → at % 4 ≡ 0 → at < 2 ^ 32 → asm_of text at ≡ r → sample_with draft n name at r ≡ Ok new → IsDraft new
 sample_is draft new n at name text (Err e) is aligned below words made = cc
 sample_is draft new n at name text (Ok ws) is aligned below words made =
     let x = asm_extent text at ws below words in
-    placed_is draft new n (directive.Sample name (record { base = at; words = ws })) is (record { aligned = aligned; ends = x.0; count = x.1 }) refl made
+    directive_is draft new n (directive.Sample name (record { base = at; words = ws })) is (record { aligned = aligned; ends = x.0; count = x.1 }) refl made
 
-added_is : (draft new : Draft) (n : ℕ) (asked : Asked) → IsDraft draft → IsAsked asked → added draft n asked ≡ Ok new → IsDraft new
-unfolding added
-added_is draft new n (asks.Storage pages) is ranged made = cc
-added_is draft new n (asks.Harts harts) is ranged made = harts_is draft new harts draft.harts is ranged made
-added_is draft new n (asks.Hart hart pc) is ranged made = placed_is draft new n (directive.Hart hart pc) is ranged refl made
-added_is draft new n (asks.Machine name parent block pages table at) is ranged made =
-    placed_is draft new n (directive.Machine name parent block pages table at) is ranged refl made
-added_is draft new n (asks.Map name page entry) is ranged made = placed_is draft new n (directive.Map name page entry) is ranged refl made
-added_is draft new n (asks.Start name pc) is ranged made = placed_is draft new n (directive.Start name pc) is ranged refl made
-added_is draft new n (asks.Image name at) is ranged made = cc
-added_is draft new n (asks.Sample name at which) is ranged made =
-    sample_is draft new n at name (sample_text which) (asm_of (sample_text which) at) is ranged.0 ranged.1 refl made
-added_is draft new n (asks.Word name at values) is ranged made = placed_is draft new n (directive.Word name at values) is ranged refl made
-added_is draft new n (asks.Tower depth pages which) is ranged made = placed_is draft new n (directive.Tower depth pages which) is ranged refl made
-added_is draft new n (asks.Turn hart count) is ranged made =
-    happened_is draft new n (directive.Turn hart) (event.Turn hart count) is ranged (few_turns draft.lines hart) refl made
-added_is draft new n (asks.Lines hart mask) is ranged made =
-    happened_is draft new n (directive.Lines hart) (event.Lines hart mask) is ranged (few_lines draft.lines hart) refl made
-added_is draft new n (asks.Watch hart name) is ranged made = placed_is draft new n (directive.Watch hart name) is ranged refl made
-added_is draft new n (asks.Dump name page) is ranged made = placed_is draft new n (directive.Dump name page) is ranged refl made
+no_event : (what : Directive) → has_event what ≡ false → event_in what ≡ None
+no_event (directive.Turn hart) none = cc
+no_event (directive.Lines hart) none = cc
+no_event _ none = refl
 
 at_line_ok : (n : ℕ) (r : Result Draft JobKind) (new : Draft) → at_line n r ≡ Ok new → r ≡ Ok new
 at_line_ok n (Ok draft) new made = let e : draft ≡ new = cc in ap (λ (d : Draft). let r : Result Draft JobKind = Ok d in r) e
 at_line_ok n (Err kind) new made = cc
 
-allowed_is : (b : Bool) (draft new : Draft) (n base : ℕ) (name ws : List ℕ) → IsDraft draft → IsImage (record { base = base; words = ws }) → cond b (placed draft n (directive.Image name (record { base = base; words = ws }))) (Err fault.Byte) ≡ Ok new → IsDraft new
-allowed_is true draft new n base name ws is image made = placed_is draft new n (directive.Image name (record { base = base; words = ws })) is image refl made
+allowed_is : (b : Bool) (draft new : Draft) (n base : ℕ) (name ws : List ℕ) → IsDraft draft → IsImage (record { base = base; words = ws }) → cond b (directive_with draft n (directive.Image name (record { base = base; words = ws }))) (Err fault.Byte) ≡ Ok new → IsDraft new
+allowed_is true draft new n base name ws is image made = directive_is draft new n (directive.Image name (record { base = base; words = ws })) is image refl made
 allowed_is false draft new n base name ws is image made = cc
 
 image_with_is : (draft new : Draft) (n last base : ℕ) (line name : List ℕ) (lines : List (List ℕ)) (r : Result (List ℕ) (ℕ × AsmKind)) → IsDraft draft → base % 4 ≡ 0 → base < 2 ^ 32 → image_words base lines ≡ r → image_with draft n last line name base r ≡ Ok new → IsDraft new
@@ -173,35 +190,39 @@ image_of_is draft new n base name inside None is aligned below made = cc
 image_of_is draft new n base name inside (Some line) is aligned below made =
     image_with_is draft new n (n + 1 + length inside) base line name inside (image_words base inside) is aligned below refl made
 
-image_added_is : (draft new : Draft) (n base : ℕ) (name : List ℕ) (behind : List (List ℕ)) → IsDraft draft → base % 4 ≡ 0 → base < 2 ^ 32 → image_added draft n name base behind ≡ Ok new → IsDraft new
-unfolding image_added
-image_added_is draft new n base name behind is aligned below made =
+image_lines_is : (draft new : Draft) (n base : ℕ) (name : List ℕ) (behind : List (List ℕ)) → IsDraft draft → base % 4 ≡ 0 → base < 2 ^ 32 → image_lines_with draft n name base behind ≡ Ok new → IsDraft new
+unfolding image_lines_with
+image_lines_is draft new n base name behind is aligned below made =
     image_of_is draft new n base name (before_end behind) (find is_end behind) is aligned below made
 
-asked_is : (draft new : Draft) (n : ℕ) (behind : List (List ℕ)) (asked : Asked) → IsDraft draft → IsAsked asked → asked_with draft n behind asked ≡ Ok new → IsDraft new
-asked_is draft new n behind (asks.Image name at) is ranged made = image_added_is draft new n at name behind is ranged.0 ranged.1 made
-asked_is draft new n behind asked is ranged made = added_is draft new n asked is ranged (at_line_ok n (added draft n asked) new made)
+draft_is : (draft new : Draft) (n : ℕ) (behind : List (List ℕ)) (said : Statement) → IsDraft draft → IsStatement said → draft_with draft n behind said ≡ Ok new → IsDraft new
+draft_is draft new n behind (states.Harts harts) is ranged made = harts_is draft new harts draft.harts is ranged (at_line_ok n _ new made)
+draft_is draft new n behind (states.Image name at) is ranged made = image_lines_is draft new n at name behind is ranged.0 ranged.1 made
+draft_is draft new n behind (states.Sample name at which) is ranged made =
+    sample_is draft new n at name (sample_text which) (asm_of (sample_text which) at) is ranged.0 ranged.1 refl (at_line_ok n _ new made)
+draft_is draft new n behind (states.Event event) is ranged made = schedule_is draft new n event is ranged (at_line_ok n _ new made)
+draft_is draft new n behind (states.Directive what) is ranged made =
+    directive_is draft new n what is ranged.0 (no_event what ranged.1) (at_line_ok n _ new made)
 
-words_is : (draft new : Draft) (n : ℕ) (behind : List (List ℕ)) (r : Result Asked JobKind) → IsDraft draft → ((asked : Asked) → r ≡ Ok asked → IsAsked asked) → words_with draft n behind r ≡ Ok new → IsDraft new
-words_is draft new n behind (Ok asked) is ranged made = asked_is draft new n behind asked is (ranged asked refl) made
+words_is : (draft new : Draft) (n : ℕ) (behind : List (List ℕ)) (r : Result Statement JobKind) → IsDraft draft → ((said : Statement) → r ≡ Ok said → IsStatement said) → words_with draft n behind r ≡ Ok new → IsDraft new
+words_is draft new n behind (Ok said) is ranged made = draft_is draft new n behind said is (ranged said refl) made
 words_is draft new n behind (Err kind) is ranged made = cc
 
 abbrev Drafted : Type 0
 Drafted = Result Draft (ℕ × JobKind)
 
-line_choice : (allowed words storage debug : Bool) (draft new : Draft) (n : ℕ) (r : Drafted) → IsDraft draft → (r ≡ Ok new → IsDraft new) → cond (not allowed) (Err (n, fault.Byte)) (cond (not words) (Ok draft) (cond storage (Err (n, fault.Directive)) (cond debug (Err (n, fault.Words)) r))) ≡ Ok new → IsDraft new
-line_choice false words storage debug draft new n r is goes made = cc
-line_choice true false storage debug draft new n r is goes made = let e : draft ≡ new = cc in subst IsDraft e is
-line_choice true true true debug draft new n r is goes made = cc
-line_choice true true false true draft new n r is goes made = cc
-line_choice true true false false draft new n r is goes made = goes made
+line_choice : (allowed words debug : Bool) (draft new : Draft) (n : ℕ) (r : Drafted) → IsDraft draft → (r ≡ Ok new → IsDraft new) → cond (not allowed) (Err (n, fault.Byte)) (cond (not words) (Ok draft) (cond debug (Err (n, fault.Words)) r)) ≡ Ok new → IsDraft new
+line_choice false words debug draft new n r is goes made = cc
+line_choice true false debug draft new n r is goes made = let e : draft ≡ new = cc in subst IsDraft e is
+line_choice true true true draft new n r is goes made = cc
+line_choice true true false draft new n r is goes made = goes made
 
 line_is : (draft new : Draft) (n : ℕ) (line : List ℕ) (behind : List (List ℕ)) → IsDraft draft → line_with draft n line behind ≡ Ok new → IsDraft new
 unfolding line_with
 line_is draft new n line behind is made =
-    line_choice (is_allowed line) (has_words line) (begins_with (codes "storage") (words_of line)) (begins_with (codes "debug") (words_of line)) draft new n
-    (words_with draft n behind (asked_of (words_of line))) is
-    (words_is draft new n behind (asked_of (words_of line)) is (asked_ranged (words_of line))) made
+    line_choice (is_allowed line) (has_words line) (begins_with (codes "debug") (words_of line)) draft new n
+    (words_with draft n behind (statement_of (words_of line))) is
+    (words_is draft new n behind (statement_of (words_of line)) is (statement_ranged (words_of line))) made
 
 abbrev Answered : Type 0
 Answered = Result Job (ℕ × JobKind)
@@ -210,39 +231,49 @@ next_ok : (r : Drafted) (next : Draft → Answered) (job : Job) → and_then r n
 next_ok (Ok new) next job made = (new, refl, made)
 next_ok (Err e) next job made = cc
 
-harts_in : (o : Option ℕ) → ((n : ℕ) → o ≡ Some n → (1 ≤ n) × (n ≤ 4)) → (1 ≤ unwrap_or o 1) × (unwrap_or o 1 ≤ 4)
+harts_in : (o : Option ℕ) → ((n : ℕ) → o ≡ Some n → (1 ≤ n) × (n ≤ job_harts)) → (1 ≤ unwrap_or o 1) × (unwrap_or o 1 ≤ job_harts)
 harts_in (Some n) ranged = ranged n refl
 harts_in None ranged = (omega arith, omega arith)
 
-job_in_is : (draft : Draft) (commands : List DebugLine) → IsDraft draft → AreCommands commands → IsJob (job_in draft commands)
+-- the job of a text, whose schedule keeps its limits
+pub record IsReadJob (job : Job) : Type 0 where
+  pub is : IsJob job
+  pub steps : total_of job.recording ≤ steps_limit
+  pub many : length job.recording ≤ events_limit
+
+job_in_is : (draft : Draft) (commands : List DebugLine) → IsDraft draft → AreCommands commands → IsReadJob (job_in draft commands)
 job_in_is draft commands is are = record {
-  pages = is.pages;
-  harts = harts_in draft.harts is.harts;
-  lines = is.lines;
-  events = is.events;
-  machines = is.machines;
-  watches = is.watches;
-  dumps = is.dumps;
-  images = is.images;
-  commands = are.ranged;
-  commanded = are.count;
-  breaks = are.breaks;
+  steps = is.steps;
+  many = is.many;
+  is = record {
+    pages = is.pages;
+    harts = harts_in draft.harts is.harts;
+    lines = is.lines;
+    events = is.events;
+    machines = is.machines;
+    watches = is.watches;
+    dumps = is.dumps;
+    images = is.images;
+    commands = are.ranged;
+    commanded = are.count;
+    breaks = are.breaks;
+  };
 }
 
 ok_job : (x y : Job) → (let r : Answered = Ok x in r) ≡ Ok y → x ≡ y
 ok_job x y is = cc
 
-found_or : (last : Bool) (ended goes : Answered) (job : Job) → (ended ≡ Ok job → IsJob job) → (goes ≡ Ok job → IsJob job) → cond last ended goes ≡ Ok job → IsJob job
-found_or true ended goes job f g made = f made
-found_or false ended goes job f g made = g made
+found_or : (last : Bool) (end_at goes : Answered) (job : Job) → (end_at ≡ Ok job → IsReadJob job) → (goes ≡ Ok job → IsReadJob job) → cond last end_at goes ≡ Ok job → IsReadJob job
+found_or true end_at goes job f g made = f made
+found_or false end_at goes job f g made = g made
 
-ended_is : (draft : Draft) (r : Result (List DebugLine) (ℕ × JobKind)) (job : Job) → IsDraft draft → ((commands : List DebugLine) → r ≡ Ok commands → AreCommands commands) → job_with draft r ≡ Ok job → IsJob job
-ended_is draft (Ok commands) job is are made = subst IsJob (ok_job _ job made) (job_in_is draft commands is (are commands refl))
+ended_is : (draft : Draft) (r : Result (List DebugLine) (ℕ × JobKind)) (job : Job) → IsDraft draft → ((commands : List DebugLine) → r ≡ Ok commands → AreCommands commands) → job_with draft r ≡ Ok job → IsReadJob job
+ended_is draft (Ok commands) job is are made = subst IsReadJob (ok_job _ job made) (job_in_is draft commands is (are commands refl))
 ended_is draft (Err e) job is are made = cc
 
-body_is : (lines : List (List ℕ)) (draft : Draft) (inside : Bool) (n : ℕ) (job : Job) → IsDraft draft → body_from draft inside n lines ≡ Ok job → IsJob job
+body_is : (lines : List (List ℕ)) (draft : Draft) (inside : Bool) (n : ℕ) (job : Job) → IsDraft draft → body_from draft inside n lines ≡ Ok job → IsReadJob job
 unfolding body_from
-body_is [] draft inside n job is made = subst IsJob (ok_job _ job made) (job_in_is draft [] is no_commands)
+body_is [] draft inside n job is made = subst IsReadJob (ok_job _ job made) (job_in_is draft [] is no_commands)
 body_is (line ∷ lines) draft true n job is made = body_is lines draft (not (is_end line)) (n + 1) job is made
 body_is (line ∷ lines) draft false n job is made =
     found_or (is_debug line) (job_with draft (commands_from [] (n + 1) lines))
@@ -252,38 +283,27 @@ body_is (line ∷ lines) draft false n job is made =
     let s = next_ok (line_with draft n line lines) (λ next. body_from next (begins_image line) (n + 1) lines) job told in
     body_is lines s.0 (begins_image line) (n + 1) job (line_is draft s.0 n line lines is s.1) s.2) made
 
-size_is : (pages found : ℕ) (r : Result Asked JobKind) → ((asked : Asked) → r ≡ Ok asked → IsAsked asked) → pages_of r ≡ Ok found → IsSize found
-size_is pages found (Ok (asks.Storage p)) ranged made = let e : p ≡ found = cc in subst IsSize e (ranged (asks.Storage p) refl)
-size_is pages found (Ok _) ranged made = cc
-size_is pages found (Err kind) ranged made = cc
+behind_storage_is : (n : ℕ) (lines words : List (List ℕ)) (r : Result ℕ JobKind) (job : Job) → storage_line_of words ≡ r → behind_storage n lines r ≡ Ok job → IsReadJob job
+behind_storage_is n lines words (Ok pages) job is made = body_is lines (draft_of pages) false (n + 1) job (draft_start pages (storage_ranged words pages is)) made
+behind_storage_is n lines words (Err kind) job is made = cc
 
-pages_is : (words : List (List ℕ)) (pages : ℕ) → storage_pages words ≡ Ok pages → IsSize pages
-unfolding storage_pages
-pages_is words pages made =
-    elim (begins_with (codes "storage") words) as (λ b. cond b (pages_of (asked_of words)) (Err fault.Storage) ≡ Ok pages → IsSize pages)
-    [ true ↦ λ made. size_is pages pages (asked_of words) (asked_ranged words) made | false ↦ λ made. cc ] made
-
-storage_with_is : (n : ℕ) (lines words : List (List ℕ)) (r : Result ℕ JobKind) (job : Job) → storage_pages words ≡ r → storage_with n lines r ≡ Ok job → IsJob job
-storage_with_is n lines words (Ok pages) job is made = body_is lines (draft_of pages) false (n + 1) job (draft_start pages (pages_is words pages is)) made
-storage_with_is n lines words (Err kind) job is made = cc
-
-storage_choice : (allowed words : Bool) (n : ℕ) (skip stored : Answered) (job : Job) → (skip ≡ Ok job → IsJob job) → (stored ≡ Ok job → IsJob job) → cond (not allowed) (Err (n, fault.Byte)) (cond (not words) skip stored) ≡ Ok job → IsJob job
+storage_choice : (allowed words : Bool) (n : ℕ) (skip stored : Answered) (job : Job) → (skip ≡ Ok job → IsReadJob job) → (stored ≡ Ok job → IsReadJob job) → cond (not allowed) (Err (n, fault.Byte)) (cond (not words) skip stored) ≡ Ok job → IsReadJob job
 storage_choice false words n skip stored job f g made = cc
 storage_choice true false n skip stored job f g made = f made
 storage_choice true true n skip stored job f g made = g made
 
-storage_is : (lines : List (List ℕ)) (n : ℕ) (job : Job) → storage_from n lines ≡ Ok job → IsJob job
+storage_is : (lines : List (List ℕ)) (n : ℕ) (job : Job) → storage_from n lines ≡ Ok job → IsReadJob job
 unfolding storage_from
 storage_is [] n job made = cc
 storage_is (line ∷ lines) n job made =
-    storage_choice (is_allowed line) (has_words line) n (storage_from (n + 1) lines) (storage_with n lines (storage_pages (words_of line))) job
-    (storage_is lines (n + 1) job) (storage_with_is n lines (words_of line) (storage_pages (words_of line)) job refl) made
+    storage_choice (is_allowed line) (has_words line) n (storage_from (n + 1) lines) (behind_storage n lines (storage_line_of (words_of line))) job
+    (storage_is lines (n + 1) job) (behind_storage_is n lines (words_of line) (storage_line_of (words_of line)) job refl) made
 
-found_is : (header : Bool) (n : ℕ) (stored : Answered) (job : Job) → (stored ≡ Ok job → IsJob job) → cond header stored (Err (n, fault.Header)) ≡ Ok job → IsJob job
+found_is : (header : Bool) (n : ℕ) (stored : Answered) (job : Job) → (stored ≡ Ok job → IsReadJob job) → cond header stored (Err (n, fault.Header)) ≡ Ok job → IsReadJob job
 found_is true n stored job f made = f made
 found_is false n stored job f made = cc
 
-header_is : (lines : List (List ℕ)) (n : ℕ) (job : Job) → header_from n lines ≡ Ok job → IsJob job
+header_is : (lines : List (List ℕ)) (n : ℕ) (job : Job) → header_from n lines ≡ Ok job → IsReadJob job
 unfolding header_from
 header_is [] n job made = cc
 header_is (line ∷ lines) n job made =
@@ -291,7 +311,10 @@ header_is (line ∷ lines) n job made =
     (cond (is_header (words_of line)) (storage_from (n + 1) lines) (Err (n, fault.Header))) job
     (header_is lines (n + 1) job) (found_is (is_header (words_of line)) n (storage_from (n + 1) lines) job (storage_is lines (n + 1) job)) made
 
-pub job_is : (text : List ℕ) (r : Result Job JobEnd) → GivesJob r (job_of text) → IfOk r IsJob
+pub text_is : (text : List ℕ) (job : Job) → job_of text ≡ Ok job → IsReadJob job
 unfolding job_of
-job_is text (Ok job) made = header_is (lines_of text) 1 job made
+text_is text job made = header_is (lines_of text) 1 job made
+
+pub job_is : (text : List ℕ) (r : Result Job JobEnd) → GivesJob r (job_of text) → IfOk r IsJob
+job_is text (Ok job) made = (text_is text job made).is
 job_is text (Err end) made = tt

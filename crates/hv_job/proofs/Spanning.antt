@@ -9,15 +9,16 @@ use Rattle.hv_asm.specs.declared.AsmEnd.TheVariants as asm
 use Rattle.hv_asm.proofs.Extent.{asm_within}
 use Rattle.hv_asm.specs.declared.Image.{Image}
 use Rattle.hv_lex.specs.Lines.{lines_of}
-use Rattle.hv_job.specs.Drafted.{FitsBehind, LineRefuses, Refuses, ended, ended_inside}
+use Rattle.hv_line.specs.Answers.{LineRefuses}
+use Rattle.hv_job.specs.Drafted.{FitsBehind, Refuses, end_at, end_inside}
 use Rattle.hv_job.specs.Inside.{IsCut}
-use Rattle.hv_job.specs.JobOf.{at_line, before_end, body_from, image_added, image_of, image_with, image_words, is_end, placed}
-use Rattle.hv_job.specs.Lines.{is_allowed}
+use Rattle.hv_job.specs.JobOf.{at_line, before_end, body_from, image_lines_with, image_of, image_with, image_words, is_end, directive_with}
+use Rattle.hv_line.specs.Lines.{is_allowed}
 use Rattle.hv_job.specs.declared.draft.Draft.{Draft}
-use Rattle.hv_job.specs.declared.draft.LineEnd.{LineEnd}
-use Rattle.hv_job.specs.declared.draft.LineEnd.TheVariants as lined
-use Rattle.hv_job.specs.declared.ends.JobKind.TheVariants as fault
-use Rattle.hv_job.specs.declared.job.Directive.TheVariants as directive
+use Rattle.hv_line.specs.declared.kinds.JobLineEnd.{JobLineEnd}
+use Rattle.hv_line.specs.declared.kinds.JobLineEnd.TheVariants as lined
+use Rattle.hv_line.specs.declared.kinds.JobKind.TheVariants as fault
+use Rattle.hv_line.specs.declared.types.Directive.TheVariants as directive
 
 none_first : (b rest : Bool) → (b || rest) ≡ false → (b ≡ false) × (rest ≡ false)
 none_first true rest e = cc
@@ -57,36 +58,36 @@ passed draft n (x ∷ xs) ys last goes ends =
     ap (λ b. body_from draft (not b) (n + 1) (xs ++ last ∷ ys)) e.0
     ∙ passed draft (n + 1) xs ys last e.1 ends ∙ ap (λ m. body_from draft false m ys) m
 
-pub image_open : (draft : Draft) (number base : ℕ) (name : List ℕ) (lines : List (List ℕ)) → list_any is_end lines ≡ false → image_added draft number name base lines ≡ Err (number, fault.Open)
-unfolding image_added
+pub image_open : (draft : Draft) (number base : ℕ) (name : List ℕ) (lines : List (List ℕ)) → list_any is_end lines ≡ false → image_lines_with draft number name base lines ≡ Err (number, fault.Open)
+unfolding image_lines_with
 image_open draft number base name lines goes = ap (image_of draft number name base (before_end lines)) (find_none lines goes)
 
 module _ (draft : Draft) (number base : ℕ) (name : List ℕ) (text inside last behind : List ℕ) (count : ℕ) (cut : IsCut text inside last behind count) where
-  is : image_added draft number name base (lines_of text) ≡ image_with draft number (number + 1 + count) last name base (asm_of inside base)
-  unfolding image_added asm_of
+  is : image_lines_with draft number name base (lines_of text) ≡ image_with draft number (number + 1 + count) last name base (asm_of inside base)
+  unfolding image_lines_with asm_of
   is =
       ap (λ ls. image_of draft number name base (before_end ls) (find is_end ls)) cut.lines
       ∙ ap (λ ls. image_of draft number name base ls (find is_end (lines_of inside ++ last ∷ lines_of behind))) (goes_front (lines_of inside) (lines_of behind) last cut.goes_on cut.ends)
       ∙ ap (image_of draft number name base (lines_of inside)) (find_last (lines_of inside) (lines_of behind) last cut.goes_on cut.ends)
       ∙ ap (λ n. image_with draft number (number + 1 + n) last name base (image_words base (lines_of inside))) (sym cut.counted)
 
-  pub image_refused : (end : AsmEnd) → AsmRefuses end (asm_of inside base) → Refuses (ended_inside end number) (image_added draft number name base (lines_of text))
+  pub image_refused : (end : AsmEnd) → AsmRefuses end (asm_of inside base) → Refuses (end_inside end number) (image_lines_with draft number name base (lines_of text))
   image_refused (asm.AsmFault inner kind) e = is ∙ ap (image_with draft number (number + 1 + count) last name base) e
   image_refused asm.Memory e = tt
 
-  ok : (image : Image) → asm_of inside base ≡ Ok image.words → image.base ≡ base → (b : Bool) → is_allowed last ≡ b → image_added draft number name base (lines_of text) ≡ at_line (number + 1 + count) (cond b (placed draft number (directive.Image name image)) (Err fault.Byte))
+  ok : (image : Image) → asm_of inside base ≡ Ok image.words → image.base ≡ base → (b : Bool) → is_allowed last ≡ b → image_lines_with draft number name base (lines_of text) ≡ at_line (number + 1 + count) (cond b (directive_with draft number (directive.Image name image)) (Err fault.Byte))
   ok image e based b allowed =
       is ∙ ap (image_with draft number (number + 1 + count) last name base) e
-      ∙ ap (λ (a : ℕ). at_line (number + 1 + count) (cond (is_allowed last) (placed draft number (directive.Image name (record { base = a; words = image.words }))) (Err fault.Byte))) (sym based)
-      ∙ ap (λ b. at_line (number + 1 + count) (cond b (placed draft number (directive.Image name image)) (Err fault.Byte))) allowed
+      ∙ ap (λ (a : ℕ). at_line (number + 1 + count) (cond (is_allowed last) (directive_with draft number (directive.Image name (record { base = a; words = image.words }))) (Err fault.Byte))) (sym based)
+      ∙ ap (λ b. at_line (number + 1 + count) (cond b (directive_with draft number (directive.Image name image)) (Err fault.Byte))) allowed
 
-  pub image_byte : (image : Image) → asm_of inside base ≡ Ok image.words → image.base ≡ base → is_allowed last ≡ false → image_added draft number name base (lines_of text) ≡ Err (number + 1 + count, fault.Byte)
+  pub image_byte : (image : Image) → asm_of inside base ≡ Ok image.words → image.base ≡ base → is_allowed last ≡ false → image_lines_with draft number name base (lines_of text) ≡ Err (number + 1 + count, fault.Byte)
   image_byte image e based no_byte = ok image e based false no_byte
 
-  pub image_placed : (image : Image) (new : Draft) → asm_of inside base ≡ Ok image.words → image.base ≡ base → is_allowed last ≡ true → placed draft number (directive.Image name image) ≡ Ok new → image_added draft number name base (lines_of text) ≡ Ok new
+  pub image_placed : (image : Image) (new : Draft) → asm_of inside base ≡ Ok image.words → image.base ≡ base → is_allowed last ≡ true → directive_with draft number (directive.Image name image) ≡ Ok new → image_lines_with draft number name base (lines_of text) ≡ Ok new
   image_placed image new e based allowed made = ok image e based true allowed ∙ ap (at_line (number + 1 + count)) made
 
-  pub image_many : (image : Image) (end : LineEnd) → asm_of inside base ≡ Ok image.words → image.base ≡ base → is_allowed last ≡ true → LineRefuses end (placed draft number (directive.Image name image)) → Refuses (ended end (number + 1 + count)) (image_added draft number name base (lines_of text))
+  pub image_many : (image : Image) (end : JobLineEnd) → asm_of inside base ≡ Ok image.words → image.base ≡ base → is_allowed last ≡ true → LineRefuses end (directive_with draft number (directive.Image name image)) → Refuses (end_at end (number + 1 + count)) (image_lines_with draft number name base (lines_of text))
   image_many image (lined.Fault kind) e based allowed made = ok image e based true allowed ∙ ap (at_line (number + 1 + count)) made
   image_many image lined.Memory e based allowed made = tt
 

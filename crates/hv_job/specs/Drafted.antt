@@ -2,13 +2,15 @@
 use Rattle.std.specs.Prelude.{◌≡◌, ℕ, ◌+◌, ◌^◌, ◌<◌, List, Result, Ok, Err}
 use Rattle.hv_asm.specs.declared.AsmEnd.{AsmEnd}
 use Rattle.hv_asm.specs.declared.AsmEnd.TheVariants as asm
+use Rattle.hv_line.specs.Answers.{LineRefuses}
+use Rattle.hv_line.specs.declared.kinds.JobKind.{JobKind}
+use Rattle.hv_line.specs.declared.kinds.JobLineEnd.{JobLineEnd}
+use Rattle.hv_line.specs.declared.kinds.JobLineEnd.TheVariants as line
 use Rattle.hv_job.specs.JobOf.{Answer, asm_kind}
 use Rattle.hv_job.specs.declared.draft.Draft.{Draft}
-use Rattle.hv_job.specs.declared.draft.LineEnd.{LineEnd}
-use Rattle.hv_job.specs.declared.draft.LineEnd.TheVariants as line
 use Rattle.hv_job.specs.declared.ends.JobEnd.{JobEnd}
 use Rattle.hv_job.specs.declared.ends.JobEnd.TheVariants.{JobFault, Memory}
-use Rattle.hv_job.specs.declared.ends.JobKind.{JobKind}
+use Rattle.hv_job.specs.declared.images.Rest.{Rest}
 use Rattle.hv_job.specs.declared.job.DebugLine.{DebugLine}
 use Rattle.hv_job.specs.declared.job.Job.{Job}
 
@@ -27,30 +29,25 @@ abbrev pub GivesCommands : Result (List DebugLine) JobEnd → Result (List Debug
 GivesCommands (Ok commands) text = text ≡ Ok commands
 GivesCommands (Err end) text = Refuses end text
 
--- the same of what a line has
-abbrev pub LineRefuses : {A : Type 0} → LineEnd → Result A JobKind → Type 0
-LineRefuses (line.Fault kind) made = made ≡ Err kind
-LineRefuses line.Memory made = Unit {0}
-
 -- what is made is the new value
-abbrev pub Makes : {A : Type 0} → Result (Unit {0}) LineEnd → Result A JobKind → A → Type 0
+abbrev pub Makes : {A : Type 0} → Result (Unit {0}) JobLineEnd → Result A JobKind → A → Type 0
 Makes (Ok done) made new = made ≡ Ok new
 Makes (Err end) made new = LineRefuses end made
 
 -- the draft is the one that is made
 abbrev pub GivesDraft : {A : Type 0} → Result A JobEnd → Result Draft (ℕ × JobKind) → Draft → Type 0
-GivesDraft (Ok spot) made new = made ≡ Ok new
+GivesDraft (Ok rest) made new = made ≡ Ok new
 GivesDraft (Err end) made new = Refuses end made
 
 -- why a text has no job, from why a line asks for nothing
-abbrev pub ended : LineEnd → ℕ → JobEnd
-ended (line.Fault kind) number = JobFault number kind
-ended line.Memory number = Memory
+abbrev pub end_at : JobLineEnd → ℕ → JobEnd
+end_at (line.Fault kind) number = JobFault number kind
+end_at line.Memory number = Memory
 
 -- why a text has no job, from why the text of an image that begins on a line has no words
-abbrev pub ended_inside : AsmEnd → ℕ → JobEnd
-ended_inside (asm.AsmFault line kind) number = JobFault (number + line) (asm_kind kind)
-ended_inside asm.Memory number = Memory
+abbrev pub end_inside : AsmEnd → ℕ → JobEnd
+end_inside (asm.AsmFault line kind) number = JobFault (number + line) (asm_kind kind)
+end_inside asm.Memory number = Memory
 
 -- its number is one of a line
 abbrev pub FitsBehind : AsmEnd → ℕ → Type 0
@@ -61,3 +58,9 @@ FitsBehind asm.Memory number = Unit {0}
 abbrev pub LeadsTo : {A : Type 0} → Result A JobEnd → Answer → (A → Answer) → Type 0
 LeadsTo (Ok place) text next = text ≡ next place
 LeadsTo (Err end) text next = Refuses end text
+
+-- behind a line that was done the next line follows
+abbrev pub Advances : Result Rest JobEnd → Result (Unit {0}) JobLineEnd → ℕ → List ℕ → Type 0
+Advances (Ok rest) (Ok done) number behind = (rest.text.now ≡ behind) × (rest.number ≡ number + 1)
+Advances (Err given) (Err end) number behind = given ≡ end_at end number
+Advances _ _ number behind = ⊥

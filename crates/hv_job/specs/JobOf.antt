@@ -10,19 +10,19 @@ use Rattle.hv_irq.specs.declared.PushEnd.{PushEnd}
 use Rattle.hv_irq.specs.declared.PushEnd.TheVariants as pushed
 use Rattle.hv_lex.specs.Lines.{lines_of}
 use Rattle.hv_samples.specs.Samples.{sample_text}
-use Rattle.hv_samples.specs.declared.choice.Sample.{Sample}
-use Rattle.hv_job.specs.Asked.{asked_of}
+use Rattle.hv_line.specs.JobLimits.{job_dumps, job_image_bytes, job_machines, job_watches}
+use Rattle.hv_line.specs.Lines.{begins_with, has_words, is_allowed, is_header, is_only, words_of}
+use Rattle.hv_line.specs.Statements.{statement_of, storage_line_of}
+use Rattle.hv_line.specs.declared.kinds.JobKind.{JobKind}
+use Rattle.hv_line.specs.declared.kinds.JobKind.TheVariants as fault
+use Rattle.hv_line.specs.declared.types.Directive.{Directive}
+use Rattle.hv_line.specs.declared.types.Directive.TheVariants as directive
+use Rattle.hv_line.specs.declared.types.Statement.{Statement}
+use Rattle.hv_line.specs.declared.types.Statement.TheVariants as states
 use Rattle.hv_job.specs.Commands.{commands_from}
-use Rattle.hv_job.specs.IsJob.{bytes_of, count_of, image_bytes, is_dump, is_machine, is_watch}
-use Rattle.hv_job.specs.Lines.{begins_with, has_words, is_allowed, is_header, is_only, words_of}
-use Rattle.hv_job.specs.declared.asked.Asked.{Asked}
-use Rattle.hv_job.specs.declared.asked.Asked.TheVariants as asks
+use Rattle.hv_job.specs.IsJob.{count_of, image_bytes, is_dump, is_machine, is_watch}
 use Rattle.hv_job.specs.declared.draft.Draft.{Draft}
-use Rattle.hv_job.specs.declared.ends.JobKind.{JobKind}
-use Rattle.hv_job.specs.declared.ends.JobKind.TheVariants as fault
 use Rattle.hv_job.specs.declared.job.DebugLine.{DebugLine}
-use Rattle.hv_job.specs.declared.job.Directive.{Directive}
-use Rattle.hv_job.specs.declared.job.Directive.TheVariants as directive
 use Rattle.hv_job.specs.declared.job.Job.{Job}
 use Rattle.hv_job.specs.declared.job.Placed.{Placed}
 
@@ -36,11 +36,11 @@ is_end line = is_only (codes "end") (words_of line)
 
 -- a limit that a directive behind these lines passes
 unfoldable pub is_many : List Placed → Directive → Bool
-is_many lines (directive.Machine name parent block pages table at) = nat_le 256 (count_of is_machine lines)
-is_many lines (directive.Watch hart name) = nat_le 16 (count_of is_watch lines)
-is_many lines (directive.Dump name page) = nat_le 1024 (count_of is_dump lines)
-is_many lines (directive.Image name image) = nat_lt 67108864 (image_bytes lines + 4 * length image.words)
-is_many lines (directive.Sample name image) = nat_lt 67108864 (image_bytes lines + 4 * length image.words)
+is_many lines (directive.Machine name parent block pages table at) = nat_le job_machines (count_of is_machine lines)
+is_many lines (directive.Watch hart name) = nat_le job_watches (count_of is_watch lines)
+is_many lines (directive.Dump name page) = nat_le job_dumps (count_of is_dump lines)
+is_many lines (directive.Image name image) = nat_lt job_image_bytes (image_bytes lines + 4 * length image.words)
+is_many lines (directive.Sample name image) = nat_lt job_image_bytes (image_bytes lines + 4 * length image.words)
 is_many lines _ = false
 
 -- the lines with a directive on the line of this number behind them
@@ -48,8 +48,8 @@ abbrev pub lines_with : List Placed → ℕ → Directive → List Placed
 lines_with lines number what = lines ++ record { line = number; what = what } ∷ []
 
 -- the draft with a directive
-unfoldable pub placed : Draft → ℕ → Directive → Result Draft JobKind
-placed draft number what =
+unfoldable pub directive_with : Draft → ℕ → Directive → Result Draft JobKind
+directive_with draft number what =
     if is_many draft.lines what then Err fault.Many
     else Ok (record draft { lines = lines_with draft.lines number what })
 
@@ -63,37 +63,27 @@ abbrev pub push_kind : PushEnd → JobKind
 push_kind pushed.Many = fault.Many
 push_kind _ = fault.Range
 
-abbrev pub event_with : Draft → ℕ → Directive → Event → Option PushEnd → Result Draft JobKind
-event_with draft number what event (Some refusal) = Err (push_kind refusal)
-event_with draft number what event None =
-    Ok (record draft { lines = lines_with draft.lines number what; recording = draft.recording ++ event ∷ [] })
+-- the directive beside an event
+abbrev pub event_directive : Event → Directive
+event_directive (event.Turn hart count) = directive.Turn hart
+event_directive (event.Lines hart mask) = directive.Lines hart
 
--- the draft with a directive that is an event of the schedule
-unfoldable pub happened : Draft → ℕ → Directive → Event → Result Draft JobKind
-happened draft number what event = event_with draft number what event (refusal_of draft.recording event)
+abbrev pub event_with : Draft → ℕ → Event → Option PushEnd → Result Draft JobKind
+event_with draft number event (Some refusal) = Err (push_kind refusal)
+event_with draft number event None =
+    Ok (record draft {
+      lines = lines_with draft.lines number (event_directive event);
+      recording = draft.recording ++ event ∷ [];
+    })
+
+-- the draft with an event of the schedule
+unfoldable pub schedule_with : Draft → ℕ → Event → Result Draft JobKind
+schedule_with draft number event = event_with draft number event (refusal_of draft.recording event)
 
 abbrev pub sample_with : Draft → ℕ → List ℕ → ℕ → Result (List ℕ) (ℕ × AsmKind) → Result Draft JobKind
 sample_with draft number name at (Err refusal) = Err fault.Range
 sample_with draft number name at (Ok words) =
-    placed draft number (directive.Sample name (record { base = at; words = words }))
-
--- the draft with what a line asks for; images have more lines
-unfoldable pub added : Draft → ℕ → Asked → Result Draft JobKind
-added draft number (asks.Storage pages) = Err fault.Directive
-added draft number (asks.Harts harts) = harts_with draft harts draft.harts
-added draft number (asks.Hart hart pc) = placed draft number (directive.Hart hart pc)
-added draft number (asks.Machine name parent block pages table at) =
-    placed draft number (directive.Machine name parent block pages table at)
-added draft number (asks.Map name page entry) = placed draft number (directive.Map name page entry)
-added draft number (asks.Start name pc) = placed draft number (directive.Start name pc)
-added draft number (asks.Image name at) = Err fault.Open
-added draft number (asks.Sample name at which) = sample_with draft number name at (asm_of (sample_text which) at)
-added draft number (asks.Word name at values) = placed draft number (directive.Word name at values)
-added draft number (asks.Tower depth pages which) = placed draft number (directive.Tower depth pages which)
-added draft number (asks.Turn hart count) = happened draft number (directive.Turn hart) (event.Turn hart count)
-added draft number (asks.Lines hart mask) = happened draft number (directive.Lines hart) (event.Lines hart mask)
-added draft number (asks.Watch hart name) = placed draft number (directive.Watch hart name)
-added draft number (asks.Dump name page) = placed draft number (directive.Dump name page)
+    directive_with draft number (directive.Sample name (record { base = at; words = words }))
 
 -- the kind of a refusal of the assembler
 abbrev pub asm_kind : AsmKind → JobKind
@@ -111,11 +101,13 @@ at_line number (Ok value) = Ok value
 at_line number (Err kind) = Err (number, kind)
 
 -- the draft with an image that was assembled, whose end is this line
-abbrev pub image_with : Draft → (number last : ℕ) → List ℕ → List ℕ → ℕ → Result (List ℕ) (ℕ × AsmKind) → Result Draft (ℕ × JobKind)
+abbrev pub image_with :
+    Draft → (number last : ℕ) → List ℕ → List ℕ → ℕ
+    → Result (List ℕ) (ℕ × AsmKind) → Result Draft (ℕ × JobKind)
 image_with draft number last line name base (Err (inner, kind)) = Err (number + inner, asm_kind kind)
 image_with draft number last line name base (Ok words) =
     at_line last (
-    if is_allowed line then placed draft number (directive.Image name (record { base = base; words = words }))
+    if is_allowed line then directive_with draft number (directive.Image name (record { base = base; words = words }))
     else Err fault.Byte)
 
 -- the words of the lines of an image
@@ -132,18 +124,22 @@ image_of draft number name base inside (Some line) =
     image_with draft number (number + 1 + length inside) line name base (image_words base inside)
 
 -- the draft with the image that a line begins; behind are the lines behind it
-unfoldable pub image_added : Draft → ℕ → List ℕ → ℕ → List (List ℕ) → Result Draft (ℕ × JobKind)
-image_added draft number name base behind =
+unfoldable pub image_lines_with : Draft → ℕ → List ℕ → ℕ → List (List ℕ) → Result Draft (ℕ × JobKind)
+image_lines_with draft number name base behind =
     image_of draft number name base (before_end behind) (find is_end behind)
 
--- the draft with what a line asks for, and whether the lines of an image come next
-abbrev pub asked_with : Draft → ℕ → List (List ℕ) → Asked → Result Draft (ℕ × JobKind)
-asked_with draft number behind (asks.Image name at) = image_added draft number name at behind
-asked_with draft number behind asked = at_line number (added draft number asked)
+-- the draft with what a line says; behind are the lines behind it
+abbrev pub draft_with : Draft → ℕ → List (List ℕ) → Statement → Result Draft (ℕ × JobKind)
+draft_with draft number behind (states.Harts harts) = at_line number (harts_with draft harts draft.harts)
+draft_with draft number behind (states.Image name at) = image_lines_with draft number name at behind
+draft_with draft number behind (states.Sample name at which) =
+    at_line number (sample_with draft number name at (asm_of (sample_text which) at))
+draft_with draft number behind (states.Event event) = at_line number (schedule_with draft number event)
+draft_with draft number behind (states.Directive what) = at_line number (directive_with draft number what)
 
--- the draft with what the words of a line ask for
-abbrev pub words_with : Draft → ℕ → List (List ℕ) → Result Asked JobKind → Result Draft (ℕ × JobKind)
-words_with draft number behind (Ok asked) = asked_with draft number behind asked
+-- the draft with what the words of a line say
+abbrev pub words_with : Draft → ℕ → List (List ℕ) → Result Statement JobKind → Result Draft (ℕ × JobKind)
+words_with draft number behind (Ok statement) = draft_with draft number behind statement
 words_with draft number behind (Err kind) = Err (number, kind)
 
 -- the line that ends the directives
@@ -155,17 +151,16 @@ unfoldable pub line_with : Draft → ℕ → List ℕ → List (List ℕ) → Re
 line_with draft number line behind =
     if not (is_allowed line) then Err (number, fault.Byte)
     else if not (has_words line) then Ok draft
-    else if begins_with (codes "storage") (words_of line) then Err (number, fault.Directive)
     else if begins_with (codes "debug") (words_of line) then Err (number, fault.Words)
-    else words_with draft number behind (asked_of (words_of line))
+    else words_with draft number behind (statement_of (words_of line))
 
-abbrev pub is_image : Result Asked JobKind → Bool
-is_image (Ok (asks.Image name at)) = true
+abbrev pub is_image : Result Statement JobKind → Bool
+is_image (Ok (states.Image name at)) = true
 is_image _ = false
 
 -- the lines of an image come next
 unfoldable pub begins_image : List ℕ → Bool
-begins_image line = is_image (asked_of (words_of line))
+begins_image line = is_image (statement_of (words_of line))
 
 -- the job of all directives and of the commands behind them
 abbrev pub job_in : Draft → List DebugLine → Job
@@ -198,19 +193,9 @@ body_from draft false number (line ∷ lines) =
 abbrev pub draft_of : ℕ → Draft
 draft_of pages = record { pages = pages; harts = None; lines = []; recording = [] }
 
--- the pages of a storage
-abbrev pub pages_of : Result Asked JobKind → Result ℕ JobKind
-pages_of (Ok (asks.Storage pages)) = Ok pages
-pages_of (Ok _) = Err fault.Storage
-pages_of (Err kind) = Err kind
-
--- the pages of the storage that the words of the second line ask for
-unfoldable pub storage_pages : List (List ℕ) → Result ℕ JobKind
-storage_pages words = if begins_with (codes "storage") words then pages_of (asked_of words) else Err fault.Storage
-
-abbrev pub storage_with : ℕ → List (List ℕ) → Result ℕ JobKind → Answer
-storage_with number lines (Ok pages) = body_from (draft_of pages) false (number + 1) lines
-storage_with number lines (Err kind) = Err (number, kind)
+abbrev pub behind_storage : ℕ → List (List ℕ) → Result ℕ JobKind → Answer
+behind_storage number lines (Ok pages) = body_from (draft_of pages) false (number + 1) lines
+behind_storage number lines (Err kind) = Err (number, kind)
 
 -- the job of the lines behind the header
 unfoldable pub storage_from : ℕ → List (List ℕ) → Answer
@@ -218,7 +203,7 @@ storage_from number [] = Err (number, fault.Storage)
 storage_from number (line ∷ lines) =
     if not (is_allowed line) then Err (number, fault.Byte)
     else if not (has_words line) then storage_from (number + 1) lines
-    else storage_with number lines (storage_pages (words_of line))
+    else behind_storage number lines (storage_line_of (words_of line))
 
 -- the job of the lines from its beginning
 unfoldable pub header_from : ℕ → List (List ℕ) → Answer

@@ -1,10 +1,5 @@
-pub mod Asked
 pub mod Commands
 pub mod Drafted
 pub mod Inside
-pub mod IsAsked
 pub mod IsJob
 pub mod JobOf
-pub mod Lines
-pub mod Names
-pub mod Texts

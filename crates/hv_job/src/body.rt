@@ -2,27 +2,29 @@
 
 ghost use Rattle.std.specs.Prelude.{◌≡◌, ◌+◌, ◌<◌, ◌≤◌, ◌^◌, false, length, IfOk};
 ghost use Rattle.hv_lex.specs.Lines.{lines_of};
-ghost use Rattle.hv_job.specs.Drafted.{GivesDraft, GivesJob, LeadsTo};
-ghost use Rattle.hv_job.specs.IsAsked.{IsAsked};
-ghost use Rattle.hv_job.specs.JobOf.{asked_with, begins_image, body_from, draft_of, header_from, is_debug as is_debug_of, is_image, line_with, storage_from, storage_pages as storage_pages_of};
-ghost use Rattle.hv_job.specs.Lines.{words_of};
+ghost use Rattle.hv_job.specs.Drafted.{Advances, GivesDraft, GivesJob, LeadsTo};
+ghost use Rattle.hv_line.specs.Ranges.{IsStatement};
+ghost use Rattle.hv_job.specs.JobOf.{draft_with, begins_image, body_from, draft_of, header_from, is_debug as is_debug_of, is_image, line_with, storage_from};
+ghost use Rattle.hv_line.specs.Lines.{words_of};
 
-use crate::asked::Asked;
 use crate::commands::read_commands;
-use crate::directives::read_asked;
 use crate::draft::Draft;
-use crate::ends::{JobEnd, JobKind};
-use crate::images::{Spot, at_line, read_image};
-use crate::job::{Items, Job};
-use crate::lines::{begins_with, has_allowed_bytes, has_words, is_header, is_only};
+use crate::ends::JobEnd;
+use crate::images::{Rest, at_line, read_image};
+use crate::job::Job;
 use hv_lex::first_line;
+use hv_line::{
+    JobKind, JobLineEnd, Statement, begins_with, has_allowed_bytes, has_words, is_header, is_only,
+    read_statement, read_storage_line,
+};
+use hv_list::Items;
 use std::alloc::Global;
 
 /// What is behind the header line.
-pub(crate) fn read_header(text: &[u8]) -> Result<Spot<'_>, JobEnd>
+pub(crate) fn read_header(text: &[u8]) -> Result<Rest<'_>, JobEnd>
     requires { length text.now + 1 < 2 ^ 32 }
-    ensures spot { LeadsTo result (header_from 1 (lines_of text.now)) (λ spot. storage_from spot.number (lines_of spot.text.now)) }
-    ensures size { IfOk result (λ spot. spot.number + length spot.text.now ≤ length text.now + 1) }
+    ensures rest { LeadsTo result (header_from 1 (lines_of text.now)) (λ rest. storage_from rest.number (lines_of rest.text.now)) }
+    ensures size { IfOk result (λ rest. rest.number + length rest.text.now ≤ length text.now + 1) }
 {
     let mut rest = text;
     let mut number = 1;
@@ -35,7 +37,7 @@ pub(crate) fn read_header(text: &[u8]) -> Result<Spot<'_>, JobEnd>
             if !is_header(line) {
                 return refused(number, JobKind::Header);
             }
-            return Ok(Spot {
+            return Ok(Rest {
                 text: behind,
                 number: number + 1,
             });
@@ -47,9 +49,9 @@ pub(crate) fn read_header(text: &[u8]) -> Result<Spot<'_>, JobEnd>
 }
 
 /// The pages of the storage, and what is behind its line.
-pub(crate) fn read_storage(text: &[u8], first: u32) -> Result<(u32, Spot<'_>), JobEnd>
+pub(crate) fn read_storage(text: &[u8], first: u32) -> Result<(u32, Rest<'_>), JobEnd>
     requires { first + length text.now < 2 ^ 32 }
-    ensures spot { LeadsTo result (storage_from first (lines_of text.now)) (λ found. body_from (draft_of found.0) false found.1.number (lines_of found.1.text.now)) }
+    ensures rest { LeadsTo result (storage_from first (lines_of text.now)) (λ found. body_from (draft_of found.0) false found.1.number (lines_of found.1.text.now)) }
     ensures size { IfOk result (λ found. found.1.number + length found.1.text.now ≤ first + length text.now) }
 {
     let mut rest = text;
@@ -60,13 +62,13 @@ pub(crate) fn read_storage(text: &[u8], first: u32) -> Result<(u32, Spot<'_>), J
             return refused(number, JobKind::Byte);
         }
         if has_words(line) {
-            return match storage_pages(line) {
+            return match read_storage_line(line) {
                 Ok(pages) => {
-                    let spot = Spot {
+                    let rest = Rest {
                         text: behind,
                         number: number + 1,
                     };
-                    Ok((pages, spot))
+                    Ok((pages, rest))
                 }
                 Err(kind) => refused(number, kind),
             };
@@ -91,9 +93,9 @@ pub(crate) fn read_body(alloc: Global, pages: u32, text: &[u8], first: u32) -> R
             let commands = read_commands(alloc, behind, number + 1)?;
             return Ok(draft.into_job(commands));
         }
-        let spot = read_line(alloc, &mut draft, number, line, behind)?;
-        number = spot.number;
-        rest = spot.text;
+        let next = read_line(alloc, &mut draft, number, line, behind)?;
+        number = next.number;
+        rest = next.text;
     }
     Ok(draft.into_job(Items::new(Vec::new(alloc))))
 }
@@ -114,74 +116,74 @@ fn read_line<'a>(
     number: u32,
     line: &[u8],
     behind: &'a [u8],
-) -> Result<Spot<'a>, JobEnd>
+) -> Result<Rest<'a>, JobEnd>
     requires { number + length behind.now + 1 < 2 ^ 32 }
     ensures draft { GivesDraft result (line_with draft.old number line.now (lines_of behind.now)) draft.new }
-    ensures rest { IfOk result (λ spot. body_from draft.new (begins_image line.now) (number + 1) (lines_of behind.now)
-        ≡ body_from draft.new false spot.number (lines_of spot.text.now)) }
-    ensures size { IfOk result (λ spot. spot.number + length spot.text.now ≤ number + 1 + length behind.now) }
-    ensures later { IfOk result (λ spot. number < spot.number) }
+    ensures rest { IfOk result (λ rest. body_from draft.new (begins_image line.now) (number + 1) (lines_of behind.now)
+        ≡ body_from draft.new false rest.number (lines_of rest.text.now)) }
+    ensures size { IfOk result (λ rest. rest.number + length rest.text.now ≤ number + 1 + length behind.now) }
+    ensures later { IfOk result (λ rest. number < rest.number) }
 {
     if !has_allowed_bytes(line) {
         return refused(number, JobKind::Byte);
     }
     if !has_words(line) {
-        return Ok(Spot {
+        return Ok(Rest {
             text: behind,
             number: number + 1,
         });
     }
-    if begins_with(b"storage", line) {
-        return refused(number, JobKind::Directive);
-    }
     if begins_with(b"debug", line) {
         return refused(number, JobKind::Words);
     }
-    match read_asked(line) {
-        Ok(asked) => do_asked(alloc, draft, number, asked, behind),
-        Err(kind) => refused(number, kind),
+    match read_statement(alloc, line) {
+        Ok(statement) => add(alloc, draft, number, statement, behind),
+        Err(end) => Err(at_line(end, number)),
     }
 }
 
-// Does what a line asks for.
-fn do_asked<'a>(
+// Does what a line says.
+fn add<'a>(
     alloc: Global,
     draft: &mut Draft,
     number: u32,
-    asked: Asked,
+    statement: Statement,
     behind: &'a [u8],
-) -> Result<Spot<'a>, JobEnd>
-    requires asked { IsAsked asked }
+) -> Result<Rest<'a>, JobEnd>
+    requires statement { IsStatement statement }
     requires length { number + length behind.now + 1 < 2 ^ 32 }
-    ensures draft { GivesDraft result (asked_with draft.old number (lines_of behind.now) asked) draft.new }
-    ensures rest { IfOk result (λ spot. body_from draft.new (is_image (Ok asked)) (number + 1) (lines_of behind.now)
-        ≡ body_from draft.new false spot.number (lines_of spot.text.now)) }
-    ensures size { IfOk result (λ spot. spot.number + length spot.text.now ≤ number + 1 + length behind.now) }
-    ensures later { IfOk result (λ spot. number < spot.number) }
+    ensures draft { GivesDraft result (draft_with draft.old number (lines_of behind.now) statement) draft.new }
+    ensures rest { IfOk result (λ rest. body_from draft.new (is_image (Ok statement)) (number + 1) (lines_of behind.now)
+        ≡ body_from draft.new false rest.number (lines_of rest.text.now)) }
+    ensures size { IfOk result (λ rest. rest.number + length rest.text.now ≤ number + 1 + length behind.now) }
+    ensures later { IfOk result (λ rest. number < rest.number) }
 {
-    match asked {
-        Asked::Image { name, at } => read_image(alloc, draft, number, name, at, behind),
-        asked => match draft.add(alloc, number, asked) {
-            Ok(()) => Ok(Spot {
-                text: behind,
-                number: number + 1,
-            }),
-            Err(end) => Err(at_line(end, number)),
-        },
+    match statement {
+        Statement::Harts { harts } => go_on(draft.set_harts(harts), number, behind),
+        Statement::Image { name, at } => read_image(alloc, draft, number, name, at, behind),
+        Statement::Sample { name, at, which } => {
+            go_on(
+                draft.add_sample(alloc, number, name, at, which),
+                number,
+                behind,
+            )
+        }
+        Statement::Event(event) => go_on(draft.schedule(number, event), number, behind),
+        Statement::Directive(what) => go_on(draft.place(number, what), number, behind),
     }
 }
 
-// The pages of a storage.
-#[tactic(auto, unfolding(crate::specs::JobOf::storage_pages))]
-fn storage_pages(line: &[u8]) -> Result<u32, JobKind>
-    ensures { result ≡ storage_pages_of (words_of line.now) }
+// What is behind a line that was done.
+fn go_on(done: Result<(), JobLineEnd>, number: u32, behind: &[u8]) -> Result<Rest<'_>, JobEnd>
+    requires { number + 1 < 2 ^ 32 }
+    ensures { Advances result done number behind.now }
 {
-    if !begins_with(b"storage", line) {
-        return Err(JobKind::Storage);
-    }
-    match read_asked(line)? {
-        Asked::Storage { pages } => Ok(pages),
-        _ => Err(JobKind::Storage),
+    match done {
+        Ok(()) => Ok(Rest {
+            text: behind,
+            number: number + 1,
+        }),
+        Err(end) => Err(at_line(end, number)),
     }
 }
 

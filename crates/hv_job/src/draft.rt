@@ -1,64 +1,23 @@
 //! What the lines of a text have so far.
 
-ghost use Rattle.std.specs.Prelude.{◌≡◌, ◌*◌, ◌%◌, if◌then◌else◌, false, [], OnOk};
+ghost use Rattle.std.specs.Prelude.{◌≡◌, ◌*◌, ◌%◌, if◌then◌else◌, false, List, [], OnOk};
 ghost use Rattle.hv_asm.specs.Assembly.{asm_of};
 ghost use Rattle.hv_samples.specs.Samples.{sample_text};
-ghost use Rattle.hv_job.specs.IsAsked.{IsAsked};
 ghost use Rattle.hv_job.specs.Drafted.{Makes};
 ghost use Rattle.hv_job.specs.IsJob.{bytes_of, is_dump, is_machine, is_watch};
-ghost use Rattle.hv_job.specs.JobOf.{added, draft_of, happened as happened_of, harts_with, is_many as is_many_of, job_in, lines_with, placed, sample_with};
+ghost use Rattle.hv_job.specs.JobOf.{directive_with, draft_of, event_directive, harts_with, is_many as is_many_of, job_in, lines_with, sample_with, schedule_with};
+ghost use Rattle.hv_job.specs.declared.job.Placed.{Placed};
 
-use crate::asked::Asked;
-use crate::ends::JobKind;
-use crate::job::{DebugLine, Directive, Items, Job, Placed};
-use crate::name::Name;
+use crate::job::{DebugLine, Job, Placed};
 use hv_asm::{AsmEnd, assemble};
 use hv_irq::{Event, PushEnd, Recording};
+use hv_line::{
+    Directive, JOB_DUMPS, JOB_IMAGE_BYTES, JOB_MACHINES, JOB_WATCHES, JobKind, JobLineEnd, Name,
+};
+use hv_list::Items;
 use hv_samples::{Sample, sample};
 use std::alloc::{AllocError, Global};
 use std::marker::Model;
-
-/// The most lines `machine` of a text.
-const MACHINES: u32 = 256;
-
-/// The most watches of a text.
-const WATCHES: u32 = 16;
-
-/// The most dumps of a text.
-const DUMPS: u32 = 1024;
-
-/// The most bytes that the images of a text have together.
-const IMAGE_BYTES: u32 = 0x400_0000;
-
-/// Why a line asks for nothing that can be had.
-pub(crate) enum LineEnd {
-    /// It is refused.
-    Fault(JobKind),
-    /// Memory is wanting.
-    Memory,
-}
-
-impl From<AllocError> for LineEnd {
-    ghost use Rattle.std.specs.Prelude.{◌≡◌};
-    ghost use Rattle.hv_job.specs.declared.draft.LineEnd.TheVariants.{Memory};
-
-    ghost from_gives = { λ _ end. end ≡ Memory };
-
-    fn from(_error: AllocError) -> LineEnd {
-        LineEnd::Memory
-    }
-}
-
-impl From<JobKind> for LineEnd {
-    ghost use Rattle.std.specs.Prelude.{◌≡◌};
-    ghost use Rattle.hv_job.specs.declared.draft.LineEnd.TheVariants.{Fault};
-
-    ghost from_gives = { λ kind end. end ≡ Fault kind };
-
-    fn from(kind: JobKind) -> LineEnd {
-        LineEnd::Fault(kind)
-    }
-}
 
 /// The directives so far, in the order of their lines, with how many there are of each kind that has a limit, and the
 /// bytes of all images. It is seen as the list of the directives.
@@ -75,6 +34,7 @@ impl Model for Directives {
     ghost use Rattle.std.specs.Prelude.{◌≡◌, ◌≤◌, List};
     ghost use Rattle.hv_job.specs.IsJob.{count_of, image_bytes, is_dump, is_machine, is_watch};
     ghost use Rattle.hv_job.specs.declared.job.Placed.{Placed};
+    ghost use Rattle.hv_line.specs.JobLimits.{job_dumps, job_image_bytes, job_machines, job_watches};
 
     ghost Value = { List Placed };
 
@@ -82,7 +42,7 @@ impl Model for Directives {
 
     ghost invariant = { λ d. (d.machines ≡ count_of is_machine d.items.items) × (d.watches ≡ count_of is_watch d.items.items)
         × (d.dumps ≡ count_of is_dump d.items.items) × (d.bytes ≡ image_bytes d.items.items)
-        × (d.machines ≤ 256) × (d.watches ≤ 16) × (d.dumps ≤ 1024) × (d.bytes ≤ 67108864) };
+        × (d.machines ≤ job_machines) × (d.watches ≤ job_watches) × (d.dumps ≤ job_dumps) × (d.bytes ≤ job_image_bytes) };
 }
 
 // Whether it is a machine, as a number.
@@ -127,6 +87,18 @@ fn words_in(what: &Directive) -> usize
     }
 }
 
+// The directive beside an event.
+#[tactic(auto, unfolding(crate::specs::JobOf::is_many))]
+fn directive_beside(event: Event) -> Directive
+    ensures directive { result ≡ event_directive event }
+    ensures few { (lines : List Placed) → is_many_of lines result ≡ false }
+{
+    match event {
+        Event::Turn { hart, .. } => Directive::Turn { hart },
+        Event::Lines { hart, .. } => Directive::Lines { hart },
+    }
+}
+
 impl Directives {
     fn new(alloc: Global) -> Directives
         ensures { result ≡ [] }
@@ -146,11 +118,11 @@ impl Directives {
         ensures { result ≡ is_many_of self.now what.now }
     {
         match what {
-            Directive::Machine { .. } => self.machines >= MACHINES,
-            Directive::Watch { .. } => self.watches >= WATCHES,
-            Directive::Dump { .. } => self.dumps >= DUMPS,
+            Directive::Machine { .. } => self.machines >= JOB_MACHINES,
+            Directive::Watch { .. } => self.watches >= JOB_WATCHES,
+            Directive::Dump { .. } => self.dumps >= JOB_DUMPS,
             Directive::Image { .. } | Directive::Sample { .. } => {
-                words_in(what) > (IMAGE_BYTES - self.bytes) as usize / 4
+                words_in(what) > (JOB_IMAGE_BYTES - self.bytes) as usize / 4
             }
             _ => false,
         }
@@ -216,127 +188,60 @@ impl Draft {
         }
     }
 
-    // Appends a directive.
-    #[tactic(auto, unfolding(crate::specs::JobOf::placed))]
-    pub fn place(&mut self, line: u32, what: Directive) -> Result<(), LineEnd>
-        ensures { Makes result (placed self.old line what) self.new }
+    /// Appends a directive.
+    #[tactic(auto, unfolding(crate::specs::JobOf::directive_with))]
+    pub fn place(&mut self, line: u32, what: Directive) -> Result<(), JobLineEnd>
+        ensures { Makes result (directive_with self.old line what) self.new }
     {
         if self.lines.is_many(&what) {
-            return Err(LineEnd::Fault(JobKind::Many));
+            return Err(JobLineEnd::Fault(JobKind::Many));
         }
         self.lines.push(line, what)?;
         Ok(())
     }
 
-    // Appends a directive that is an event of the schedule.
-    #[tactic(auto, unfolding(crate::specs::JobOf::happened, crate::specs::JobOf::is_many))]
-    fn happen(&mut self, line: u32, what: Directive, event: Event) -> Result<(), LineEnd>
-        requires { is_many_of self.old.lines what ≡ false }
-        ensures { Makes result (happened_of self.old line what event) self.new }
+    /// Appends an event of the schedule, and the directive beside it.
+    #[tactic(auto, unfolding(crate::specs::JobOf::schedule_with))]
+    pub fn schedule(&mut self, line: u32, event: Event) -> Result<(), JobLineEnd>
+        ensures { Makes result (schedule_with self.old line event) self.new }
     {
         match self.recording.push(event) {
             Ok(()) => {}
-            Err(PushEnd::Memory) => return Err(LineEnd::Memory),
-            Err(PushEnd::Many) => return Err(LineEnd::Fault(JobKind::Many)),
-            Err(_) => return Err(LineEnd::Fault(JobKind::Range)),
+            Err(PushEnd::Memory) => return Err(JobLineEnd::Memory),
+            Err(PushEnd::Many) => return Err(JobLineEnd::Fault(JobKind::Many)),
+            Err(_) => return Err(JobLineEnd::Fault(JobKind::Range)),
         }
-        self.lines.push(line, what)?;
+        self.lines.push(line, directive_beside(event))?;
         Ok(())
     }
 
-    // Sets the number of harts, which one line may give.
-    fn set_harts(&mut self, harts: u32) -> Result<(), LineEnd>
+    /// Sets the number of harts, which one line may give.
+    pub fn set_harts(&mut self, harts: u32) -> Result<(), JobLineEnd>
         ensures { Makes result (harts_with self.old harts self.old.harts) self.new }
     {
         if self.harts.is_some() {
-            return Err(LineEnd::Fault(JobKind::Repeat));
+            return Err(JobLineEnd::Fault(JobKind::Repeat));
         }
         self.harts = Some(harts);
         Ok(())
     }
 
-    // Appends the words of a sample.
-    fn add_sample(
+    /// Appends the words of a sample.
+    pub fn add_sample(
         &mut self,
         alloc: Global,
         line: u32,
         name: Name,
         at: u32,
         which: Sample,
-    ) -> Result<(), LineEnd>
+    ) -> Result<(), JobLineEnd>
         requires { at % 4 ≡ 0 }
         ensures { Makes result (sample_with self.old line name at (asm_of (sample_text which) at)) self.new }
     {
         match assemble(alloc, sample(which).as_bytes(), at) {
             Ok(image) => self.place(line, Directive::Sample { name, image }),
-            Err(AsmEnd::AsmFault { .. }) => Err(LineEnd::Fault(JobKind::Range)),
-            Err(AsmEnd::Memory) => Err(LineEnd::Memory),
-        }
-    }
-
-    /// Appends what a line asks for that has no more lines.
-    #[tactic(auto, unfolding(crate::specs::JobOf::added))]
-    pub fn add(&mut self, alloc: Global, line: u32, asked: Asked) -> Result<(), LineEnd>
-        requires { IsAsked asked }
-        ensures { Makes result (added self.old line asked) self.new }
-    {
-        match asked {
-            Asked::Storage { .. } => Err(LineEnd::Fault(JobKind::Directive)),
-            Asked::Harts { harts } => self.set_harts(harts),
-            Asked::Hart { hart, pc } => self.place(line, Directive::Hart { hart, pc }),
-            Asked::Machine {
-                name,
-                parent,
-                block,
-                pages,
-                table,
-                at,
-            } => self.place(
-                line,
-                Directive::Machine {
-                    name,
-                    parent,
-                    block,
-                    pages,
-                    table,
-                    at,
-                },
-            ),
-            Asked::Map { name, page, entry } => self.place(
-                line,
-                Directive::Map { name, page, entry },
-            ),
-            Asked::Start { name, pc } => self.place(line, Directive::Start { name, pc }),
-            Asked::Image { .. } => Err(LineEnd::Fault(JobKind::Open)),
-            Asked::Sample { name, at, which } => self.add_sample(alloc, line, name, at, which),
-            Asked::Word { name, at, values } => {
-                let values = values.to_items(alloc)?;
-                self.place(line, Directive::Word { name, at, values })
-            }
-            Asked::Tower {
-                depth,
-                pages,
-                which,
-            } => self.place(
-                line,
-                Directive::Tower {
-                    depth,
-                    pages,
-                    which,
-                },
-            ),
-            Asked::Turn { hart, count } => self.happen(
-                line,
-                Directive::Turn { hart },
-                Event::Turn { hart, count },
-            ),
-            Asked::Lines { hart, mask } => self.happen(
-                line,
-                Directive::Lines { hart },
-                Event::Lines { hart, mask },
-            ),
-            Asked::Watch { hart, name } => self.place(line, Directive::Watch { hart, name }),
-            Asked::Dump { name, page } => self.place(line, Directive::Dump { name, page }),
+            Err(AsmEnd::AsmFault { .. }) => Err(JobLineEnd::Fault(JobKind::Range)),
+            Err(AsmEnd::Memory) => Err(JobLineEnd::Memory),
         }
     }
 }

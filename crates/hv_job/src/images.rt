@@ -3,22 +3,20 @@
 ghost use Rattle.std.specs.Prelude.{◌≡◌, ◌+◌, ◌%◌, ◌<◌, ◌≤◌, ◌^◌, false, true, length, IfOk, MatchOption};
 ghost use Rattle.std.specs.List.{list_any};
 ghost use Rattle.hv_lex.specs.Lines.{lines_of};
-ghost use Rattle.hv_job.specs.Drafted.{FitsBehind, GivesDraft, ended, ended_inside};
+ghost use Rattle.hv_job.specs.Drafted.{FitsBehind, GivesDraft, end_at, end_inside};
 ghost use Rattle.hv_job.specs.Inside.{IsCut};
-ghost use Rattle.hv_job.specs.JobOf.{asm_kind, body_from, image_added, is_end as is_end_of};
+ghost use Rattle.hv_job.specs.JobOf.{asm_kind, body_from, image_lines_with, is_end as is_end_of};
 
-use crate::draft::{Draft, LineEnd};
-use crate::ends::{JobEnd, JobKind};
-use crate::job::Directive;
-use crate::lines::{has_allowed_bytes, is_only};
-use crate::name::Name;
+use crate::draft::Draft;
+use crate::ends::JobEnd;
 use hv_asm::{AsmEnd, AsmKind, assemble};
 use hv_lex::first_line;
+use hv_line::{Directive, JobKind, JobLineEnd, Name, has_allowed_bytes, is_only};
 use std::alloc::Global;
 
 /// What is left of a text, and the number of its first line.
 #[derive(Clone, Copy)]
-pub(crate) struct Spot<'a> {
+pub(crate) struct Rest<'a> {
     pub text: &'a [u8],
     pub number: u32,
 }
@@ -82,7 +80,7 @@ fn kind_of(kind: AsmKind) -> JobKind
 // The end of a text inside an image that begins on this line.
 fn inside(end: AsmEnd, number: u32) -> JobEnd
     requires { FitsBehind end number }
-    ensures { result ≡ ended_inside end number }
+    ensures { result ≡ end_inside end number }
 {
     match end {
         AsmEnd::AsmFault { line, kind } => JobEnd::JobFault {
@@ -94,17 +92,17 @@ fn inside(end: AsmEnd, number: u32) -> JobEnd
 }
 
 /// The end of a text at a line.
-pub(crate) fn at_line(end: LineEnd, line: u32) -> JobEnd
-    ensures { result ≡ ended end line }
+pub(crate) fn at_line(end: JobLineEnd, line: u32) -> JobEnd
+    ensures { result ≡ end_at end line }
 {
     match end {
-        LineEnd::Fault(kind) => JobEnd::JobFault { line, kind },
-        LineEnd::Memory => JobEnd::Memory,
+        JobLineEnd::Fault(kind) => JobEnd::JobFault { line, kind },
+        JobLineEnd::Memory => JobEnd::Memory,
     }
 }
 
 /// Appends the image that a line begins, and gives what is behind its end.
-#[tactic(auto, unfolding(crate::specs::JobOf::image_added))]
+#[tactic(auto, unfolding(crate::specs::JobOf::image_lines_with))]
 pub(crate) fn read_image<'a>(
     alloc: Global,
     draft: &mut Draft,
@@ -112,14 +110,14 @@ pub(crate) fn read_image<'a>(
     name: Name,
     base: u32,
     behind: &'a [u8],
-) -> Result<Spot<'a>, JobEnd>
+) -> Result<Rest<'a>, JobEnd>
     requires aligned { base % 4 ≡ 0 }
     requires length { number + length behind.now + 1 < 2 ^ 32 }
-    ensures draft { GivesDraft result (image_added draft.old number name base (lines_of behind.now)) draft.new }
-    ensures rest { IfOk result (λ spot. body_from draft.new true (number + 1) (lines_of behind.now)
-        ≡ body_from draft.new false spot.number (lines_of spot.text.now)) }
-    ensures size { IfOk result (λ spot. spot.number + length spot.text.now ≤ number + 1 + length behind.now) }
-    ensures later { IfOk result (λ spot. number < spot.number) }
+    ensures draft { GivesDraft result (image_lines_with draft.old number name base (lines_of behind.now)) draft.new }
+    ensures rest { IfOk result (λ rest. body_from draft.new true (number + 1) (lines_of behind.now)
+        ≡ body_from draft.new false rest.number (lines_of rest.text.now)) }
+    ensures size { IfOk result (λ rest. rest.number + length rest.text.now ≤ number + 1 + length behind.now) }
+    ensures later { IfOk result (λ rest. number < rest.number) }
 {
     let Some(cut) = cut_at_end(behind) else {
         return Err(JobEnd::JobFault {
@@ -139,7 +137,7 @@ pub(crate) fn read_image<'a>(
         });
     }
     match draft.place(number, Directive::Image { name, image }) {
-        Ok(()) => Ok(Spot {
+        Ok(()) => Ok(Rest {
             text: cut.behind,
             number: last + 1,
         }),

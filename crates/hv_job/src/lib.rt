@@ -6,22 +6,17 @@ ghost use Rattle.hv_job.specs.Drafted.{GivesJob};
 ghost use Rattle.hv_job.specs.IsJob.{IsJob};
 ghost use Rattle.hv_job.specs.JobOf.{job_of};
 
-mod asked;
 mod body;
 mod commands;
-mod directives;
 mod draft;
 mod ends;
 mod images;
 mod job;
-mod lines;
-mod name;
-mod words;
 
 use body::{read_body, read_header, read_storage};
-pub use ends::{JobEnd, JobKind};
-pub use job::{DebugCommand, DebugLine, Directive, Items, Job, Placed};
-pub use name::Name;
+pub use ends::JobEnd;
+pub use hv_line::{DebugCommand, Directive, JobKind, Name};
+pub use job::{DebugLine, Job, Placed};
 use std::alloc::Global;
 
 /// The job of a text, which has at most 2^32 - 2 bytes. A refusal is that of the first line that is refused; a line of

@@ -32,6 +32,7 @@ fitting n = if nat_lt n (2 ^ 32) then Some n else None
 unfoldable pub number_in : ℕ → List ℕ → Option ℕ
 number_in base digits = if length digits == 0 then None else option_and_then fitting (spelled_from base 0 digits)
 
+-- hexadecimal digits behind `0x`, or else decimal digits
 abbrev pub number_after : Option (List ℕ) → List ℕ → Option ℕ
 number_after (Some digits) text = number_in 16 digits
 number_after None text = number_in 10 text

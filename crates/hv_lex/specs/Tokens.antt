@@ -70,6 +70,7 @@ size_of (Minus text) = 1 + length text
 size_of (Comment text) = 1 + length text
 size_of (Sign byte) = 1
 
+-- one token
 abbrev pub token : ℕ → ℕ → Kind → List Token
 token start end kind = record { start = start; end = end; kind = kind } ∷ []
 

@@ -9,8 +9,8 @@ use Rattle.hv_map.specs.Chain.{pin_of}
 use Rattle.hv_samples.specs.declared.choice.Sample.{Sample}
 use Rattle.hv_load.specs.declared.ends.BuildEnd.{BuildEnd}
 use Rattle.hv_load.specs.declared.ends.BuildKind.{BuildKind}
-use Rattle.hv_load.specs.declared.parts.LineEnd.{LineEnd}
-use Rattle.hv_load.specs.declared.parts.LineEnd.TheVariants.{Fault, Memory}
+use Rattle.hv_load.specs.declared.parts.DirectiveEnd.{DirectiveEnd}
+use Rattle.hv_load.specs.declared.parts.DirectiveEnd.TheVariants.{Fault, Memory}
 use Rattle.hv_load.specs.declared.parts.Mark.{Mark}
 use Rattle.hv_load.specs.declared.parts.Mark.TheVariants as mark
 use Rattle.hv_load.specs.declared.start.Start.{Start}
@@ -24,7 +24,7 @@ use Rattle.hv_load.specs.Tower.{grown, level_machine, level_sample, levels_from}
 use Rattle.hv_load.proofs.Lists.{left_at}
 
 -- a refusal of a part is one of the whole
-refused_by : {A B : Type 0} (end : LineEnd) (part : Result A BuildKind) (whole : Result B BuildKind) → ((why : BuildKind) → part ≡ Err why → whole ≡ Err why) → Refuses end part → Refuses end whole
+refused_by : {A B : Type 0} (end : DirectiveEnd) (part : Result A BuildKind) (whole : Result B BuildKind) → ((why : BuildKind) → part ≡ Err why → whole ≡ Err why) → Refuses end part → Refuses end whole
 refused_by (Fault why) part whole f is = f why is
 refused_by Memory part whole f is = tt
 
@@ -50,7 +50,7 @@ module _ (b : Building) (name read : List ℕ) (names : List Known) (k : Known) 
       words_by at n values (Ok places) count is
       ∙ ap (λ (S : List ℕ). let done : Result Building BuildKind = Ok (record b { storage = S }) in done) (sym written)
 
-  pub words_refused : (at n : ℕ) (values : List ℕ) (end : LineEnd) → n ≡ length values → Refuses end (each_from (place_by (found_by b.storage marks chain k.pages false)) (at / 4) n) → Refuses end (words_of b name at values)
+  pub words_refused : (at n : ℕ) (values : List ℕ) (end : DirectiveEnd) → n ≡ length values → Refuses end (each_from (place_by (found_by b.storage marks chain k.pages false)) (at / 4) n) → Refuses end (words_of b name at values)
   words_refused at n values end count =
       refused_by end (each_from (place_by (found_by b.storage marks chain k.pages false)) (at / 4) n) (words_of b name at values) (λ why is. words_by at n values (Err why) count is)
 
@@ -65,7 +65,7 @@ module _ (b : Building) (name read : List ℕ) (names : List Known) (k : Known) 
       ∙ ap (λ (S : List ℕ). let done : Result Building BuildKind = Ok (record b { storage = S; marks = marked mark.Image (map page_at places) b.marks }) in done) (ap (with_values b.storage places) (sym are) ∙ sym written)
       ∙ ap (λ (ms : List Mark). let done : Result Building BuildKind = Ok (record b { storage = new; marks = ms }) in done) (sym marked_so)
 
-  pub image_refused : (image : Image) (n : ℕ) (end : LineEnd) → n ≡ length image.words → Refuses end (each_from (place_by (found_by b.storage marks chain k.pages true)) (image.base / 4) n) → Refuses end (image_of b name image)
+  pub image_refused : (image : Image) (n : ℕ) (end : DirectiveEnd) → n ≡ length image.words → Refuses end (each_from (place_by (found_by b.storage marks chain k.pages true)) (image.base / 4) n) → Refuses end (image_of b name image)
   image_refused image n end count =
       refused_by end (each_from (place_by (found_by b.storage marks chain k.pages true)) (image.base / 4) n) (image_of b name image) (λ why is. image_by image n (Err why) count is)
 
@@ -115,7 +115,7 @@ parts_more b next parts i p all h is done told =
     (ap (parts_of b) (left_at parts i p h is) ∙ ap (λ (r : Result Building BuildKind). r >>= λ next. parts_of next (drop (i + 1) parts)) done)
     ∙ told
 
-pub parts_stop : (b : Building) (parts : List Placed) (i : ℕ) (p : Placed) (end : LineEnd) (all : Result Building BuildKind) → i < length parts → p ≡ get_or parts i p → Refuses end (part_of b p.what) → parts_of b (drop i parts) ≡ all → Refuses end all
+pub parts_stop : (b : Building) (parts : List Placed) (i : ℕ) (p : Placed) (end : DirectiveEnd) (all : Result Building BuildKind) → i < length parts → p ≡ get_or parts i p → Refuses end (part_of b p.what) → parts_of b (drop i parts) ≡ all → Refuses end all
 parts_stop b parts i p end all h is refused told =
     refused_by
     end

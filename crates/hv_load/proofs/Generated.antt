@@ -8,11 +8,12 @@ use Rattle.std.proofs.lemmas.List.Sums.{sum_by-append, sum_by-cons}
 use Rattle.hv_irq.specs.declared.Event.{Event}
 use Rattle.hv_irq.specs.declared.Event.TheVariants.{Turn}
 use Rattle.hv_isa.specs.declared.Instr.{Instr}
-use Rattle.hv_job.specs.IsJob.{IsCommand, IsJob, IsRanged, TurnOf, bytes_of, event_of, happening_of, is_dump, is_machine, is_watch}
+use Rattle.hv_line.specs.Ranges.{IsCommand, IsRanged}
+use Rattle.hv_job.specs.IsJob.{IsJob, TurnOf, bytes_of, event_of, happening_of, is_dump, is_machine, is_watch}
 use Rattle.hv_job.specs.declared.job.DebugLine.{DebugLine}
 use Rattle.hv_job.specs.declared.job.Job.{Job}
 use Rattle.hv_job.specs.declared.job.Placed.{Placed}
-use Rattle.hv_load.specs.Generator.{addition, additions, job_with, jump_back, kernel_line, kernel_of, lines_of, long_turn, next, number_at, schedule_of, tower_line, turn_line, turn_lines, watch_line, word_of}
+use Rattle.hv_load.specs.Generator.{addition, additions, depths, job_with, jump_back, kernel_line, kernel_of, lines_of, long_turn, next, number_at, schedule_of, tower_line, turn_line, turn_lines, watch_line, word_of}
 
 pub number_none : (seed : ℕ) → number_at seed 0 ≡ seed
 unfolding number_at
@@ -100,11 +101,11 @@ counted f none depth kernel turns =
     sum_by-cons f (tower_line depth) (kernel_line kernel ∷ turned ++ last ∷ [])
     ∙ ap (λ n. f (tower_line depth) + n) (sum_by-cons f (kernel_line kernel) (turned ++ last ∷ []) ∙ behind)
 
-ranged : (depth : ℕ) (kernel : List ℕ) (turns : ℕ) → depth ≤ 8 → length kernel ≡ 512 → All (λ placed. IsRanged placed.what) (lines_of depth kernel turns)
+ranged : (depth : ℕ) (kernel : List ℕ) (turns : ℕ) → depth < depths → length kernel ≡ 512 → All (λ placed. IsRanged placed.what) (lines_of depth kernel turns)
 unfolding turn_lines
 ranged depth kernel turns low size =
     let P : Placed → Type 0 = λ placed. IsRanged placed.what in
-    let tower : P (tower_line depth) = (low, (lit≤ tt, lit≤ tt), inl refl) in
+    let tower : P (tower_line depth) = (omega (arith, low), (lit≤ tt, lit≤ tt), inl refl) in
     let image : P (kernel_line kernel) = record { aligned = refl; ends = omega arith; count = omega arith } in
     let turned : All P (turn_lines turns) = All-map P turn_line (range_with_len 0 turns) (λ k d h. lit< tt) in
     let watched : All P (watch_line turns ∷ []) = All-cons P (watch_line turns) [] (lit< tt) (All-nil P) in
@@ -114,7 +115,7 @@ ranged depth kernel turns low size =
     (All-cons P (kernel_line kernel) (turn_lines turns ++ watch_line turns ∷ []) image behind)
 
 -- the job is one that can be built
-job_meets : (depth : ℕ) (kernel : List ℕ) → depth ≤ 8 → length kernel ≡ 512 → IsJob (job_with depth kernel (schedule_of depth))
+job_meets : (depth : ℕ) (kernel : List ℕ) → depth < depths → length kernel ≡ 512 → IsJob (job_with depth kernel (schedule_of depth))
 job_meets depth kernel low size =
     let turns = length (schedule_of depth) in
     record {
@@ -132,9 +133,9 @@ job_meets depth kernel low size =
     }
 
 -- the same of the job that is made of the parts
-pub IsJob-made : (number : ℕ) (words : List ℕ) (recording events : List Event) (lines : List Placed) (commands : List DebugLine) → words ≡ kernel_of (number / 9) → recording ≡ schedule_of (number % 9) → events ≡ recording → lines ≡ lines_of (number % 9) words (length events) → commands ≡ [] → IsJob record { pages = 28; harts = 1; lines = lines; recording = recording; commands = commands }
+pub IsJob-made : (number : ℕ) (words : List ℕ) (recording events : List Event) (lines : List Placed) (commands : List DebugLine) → words ≡ kernel_of (number / depths) → recording ≡ schedule_of (number % depths) → events ≡ recording → lines ≡ lines_of (number % depths) words (length events) → commands ≡ [] → IsJob record { pages = 28; harts = 1; lines = lines; recording = recording; commands = commands }
 IsJob-made number words recording events lines commands kernel turns seen all none =
     let made : Job = record { pages = 28; harts = 1; lines = lines; recording = recording; commands = commands } in
-    let same : job_with (number % 9) (kernel_of (number / 9)) (schedule_of (number % 9)) ≡ made = cc in
-    let low : number % 9 ≤ 8 = omega arith in
-    subst IsJob same (job_meets (number % 9) (kernel_of (number / 9)) low (length-kernel_of (number / 9)))
+    let same : job_with (number % depths) (kernel_of (number / depths)) (schedule_of (number % depths)) ≡ made = cc in
+    let low : number % depths < depths = omega arith in
+    subst IsJob same (job_meets (number % depths) (kernel_of (number / depths)) low (length-kernel_of (number / depths)))

@@ -11,11 +11,11 @@ use Rattle.hv_asm.specs.declared.Image.{Image}
 use Rattle.hv_cpu.specs.Regs.{reset_regs}
 use Rattle.hv_job.specs.IsJob.{IsJob, count_of, is_dump, is_watch}
 use Rattle.hv_job.specs.declared.job.Job.{Job}
-use Rattle.hv_job.specs.declared.job.Directive.{Directive}
-use Rattle.hv_job.specs.declared.job.Directive.TheVariants as directive
+use Rattle.hv_line.specs.declared.types.Directive.{Directive}
+use Rattle.hv_line.specs.declared.types.Directive.TheVariants as directive
 use Rattle.hv_job.specs.declared.job.Placed.{Placed}
 use Rattle.hv_map.specs.Chain.{map_along, map_of, pin_of}
-use Rattle.hv_limits.specs.Limits.{depth_limit}
+use Rattle.hv_limits.specs.Limits.{depth_limit, pages_limit}
 use Rattle.hv_map.specs.Item.{Item}
 use Rattle.hv_store.specs.Zeros.{zeros}
 use Rattle.std.specs.Option.{option_map}
@@ -25,7 +25,7 @@ use Rattle.hv_samples.specs.declared.choice.Sample.{Sample}
 use Rattle.hv_load.specs.declared.ends.BuildEnd.{BuildEnd}
 use Rattle.hv_load.specs.declared.ends.BuildKind.{BuildKind}
 use Rattle.hv_load.specs.declared.ends.BuildKind.TheVariants as kind
-use Rattle.hv_load.specs.declared.parts.Asked.{Asked}
+use Rattle.hv_load.specs.declared.parts.PlacedWatch.{PlacedWatch}
 use Rattle.hv_load.specs.declared.parts.Mark.TheVariants as mark
 use Rattle.hv_load.specs.Building.{◌>>=◌, Building, Known, inside_another, known, known_inside, named, nothing_built}
 use Rattle.hv_load.specs.Build.{GivesStart, and_then, at_line, build_of, built_from, can_watch, command_fault, done_of, ended, finished, part_of, parts_of, start_of, topped, towered_of, unless_fault, unless_refused, watch_asked, watch_fault, with_top}
@@ -55,7 +55,7 @@ given : {B E : Type 0} (x y : B) (r : Result B E) → r ≡ Ok x → r ≡ Ok y 
 given x y r e o = cc
 
 -- a watch that may be asked for, where there are so many harts
-pub record IsAsked (harts : ℕ) (a : Asked) : Type 0 where
+pub record IsAsked (harts : ℕ) (a : PlacedWatch) : Type 0 where
   pub hart : a.watch.hart < harts
   pub bare : a.watch.path ≡ [] → harts ≤ 1
 
@@ -185,7 +185,7 @@ watch_keeps b n line hart name is =
   where
     inside : (k : Known) → hart < length b.harts → watch_in b line hart k ≡ Ok n → Keeps b n 1 0
     inside k lt is =
-        let asked : Asked = record { line = line; watch = record { hart = hart; path = k.path } } in
+        let asked : PlacedWatch = record { line = line; watch = record { hart = hart; path = k.path } } in
         let can = passed (is_shared k.path (length b.harts)) (Ok (record b { watches = b.watches ++ asked ∷ [] })) kind.Watch n is in
         made b (record b { watches = b.watches ++ asked ∷ [] }) n 1 0 _ (record {
           words = refl;
@@ -290,7 +290,7 @@ lines_keep b n (p ∷ lines) is =
 -- a machine that can be watched is there
 can_be_there : (S : List ℕ) (o : Option (List Item)) → can_watch (option_map (map_along S) o) ≡ true → IsThere S o
 can_be_there S None is = absurd (true≢false (sym is))
-can_be_there S (Some items) is = leb-true (length (map_along S items)) 16384 is
+can_be_there S (Some items) is = leb-true (length (map_along S items)) pages_limit is
 
 none_or : (c : Bool) (o : Option ℕ) (line : ℕ) → cond c o (Some line) ≡ None → (c ≡ true) × (o ≡ None)
 none_or true o line is = (refl, is)
@@ -299,7 +299,7 @@ none_or false o line is = absurd (some_none line is)
     some_none : (line : ℕ) → Some line ≡ None → ⊥
     some_none line is = cc
 
-all_watched : (S : List ℕ) (harts : ℕ) (asked : List Asked) → watch_fault S asked ≡ None → All (IsAsked harts) asked → EachWatched S harts (map watch_asked asked)
+all_watched : (S : List ℕ) (harts : ℕ) (asked : List PlacedWatch) → watch_fault S asked ≡ None → All (IsAsked harts) asked → EachWatched S harts (map watch_asked asked)
 all_watched S harts [] is all = tt
 all_watched S harts (a ∷ rest) is all =
     let here = none_or (can_watch (map_of S a.watch.path)) (watch_fault S rest) a.line is in

@@ -4,7 +4,7 @@ use Rattle.std.specs.Str.{bytes_eq}
 use Rattle.std.proofs.lemmas.List.{drop_all, get_or_default}
 use Rattle.hv_map.specs.Chain.{map_of}
 use Rattle.hv_load.specs.declared.ends.BuildKind.{BuildKind}
-use Rattle.hv_load.specs.declared.parts.Asked.{Asked}
+use Rattle.hv_load.specs.declared.parts.PlacedWatch.{PlacedWatch}
 use Rattle.hv_load.specs.declared.parts.Mark.{Mark}
 use Rattle.hv_load.specs.Building.{Known, named}
 use Rattle.hv_load.specs.Build.{can_watch, watch_fault}
@@ -26,16 +26,16 @@ named_found name ks i k h is there = ap (named name) (left_at ks i k h is) ∙ n
 pub named_end : (name : List ℕ) (ks : List Known) (i : ℕ) → length ks ≤ i → named name (drop i ks) ≡ None
 named_end name ks i h = ap (named name) (drop_all i ks h)
 
-watch_here : (S : List ℕ) (a : Asked) (rest : List Asked) (b : Bool) → can_watch (map_of S a.watch.path) ≡ b → watch_fault S (a ∷ rest) ≡ cond b (watch_fault S rest) (Some a.line)
+watch_here : (S : List ℕ) (a : PlacedWatch) (rest : List PlacedWatch) (b : Bool) → can_watch (map_of S a.watch.path) ≡ b → watch_fault S (a ∷ rest) ≡ cond b (watch_fault S rest) (Some a.line)
 watch_here S a rest b is = ap (λ (c : Bool). cond c (watch_fault S rest) (Some a.line)) is
 
-pub watch_more : (S : List ℕ) (asked : List Asked) (i : ℕ) (a : Asked) → i < length asked → a ≡ get_or asked i a → can_watch (map_of S a.watch.path) ≡ true → watch_fault S (drop i asked) ≡ watch_fault S (drop (i + 1) asked)
+pub watch_more : (S : List ℕ) (asked : List PlacedWatch) (i : ℕ) (a : PlacedWatch) → i < length asked → a ≡ get_or asked i a → can_watch (map_of S a.watch.path) ≡ true → watch_fault S (drop i asked) ≡ watch_fault S (drop (i + 1) asked)
 watch_more S asked i a h is there = ap (watch_fault S) (left_at asked i a h is) ∙ watch_here S a (drop (i + 1) asked) true there
 
-pub watch_found : (S : List ℕ) (asked : List Asked) (i : ℕ) (a : Asked) → i < length asked → a ≡ get_or asked i a → can_watch (map_of S a.watch.path) ≡ false → watch_fault S (drop i asked) ≡ Some a.line
+pub watch_found : (S : List ℕ) (asked : List PlacedWatch) (i : ℕ) (a : PlacedWatch) → i < length asked → a ≡ get_or asked i a → can_watch (map_of S a.watch.path) ≡ false → watch_fault S (drop i asked) ≡ Some a.line
 watch_found S asked i a h is other = ap (watch_fault S) (left_at asked i a h is) ∙ watch_here S a (drop (i + 1) asked) false other
 
-pub watch_end : (S : List ℕ) (asked : List Asked) (i : ℕ) → length asked ≤ i → watch_fault S (drop i asked) ≡ None
+pub watch_end : (S : List ℕ) (asked : List PlacedWatch) (i : ℕ) → length asked ≤ i → watch_fault S (drop i asked) ≡ None
 watch_end S asked i h = ap (watch_fault S) (drop_all i asked h)
 
 pub values_more : (S places values : List ℕ) (i : ℕ) → i < length places → i < length values → with_values S (drop i places) (drop i values) ≡ with_values (set S (get_or places i 0) (get_or values i 0)) (drop (i + 1) places) (drop (i + 1) values)

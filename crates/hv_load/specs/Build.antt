@@ -1,11 +1,12 @@
 -- A job built: its directives in the order of their lines, then the commands of the debugger, and last the watches.
 use Rattle.std.specs.Prelude.{◌≡◌, ℕ, Bool, true, false, ◌||◌, nat_le, if◌then◌else◌, List, [], ◌∷◌, ◌++◌, length, map, is_some, Option, Some, None, Result, Ok, Err, codes}
+use Rattle.hv_limits.specs.Limits.{pages_limit}
 use Rattle.hv_store.specs.declared.access.Slot.{Slot}
-use Rattle.hv_job.specs.declared.job.DebugCommand.{DebugCommand}
-use Rattle.hv_job.specs.declared.job.DebugCommand.TheVariants as command
+use Rattle.hv_line.specs.declared.types.DebugCommand.{DebugCommand}
+use Rattle.hv_line.specs.declared.types.DebugCommand.TheVariants as command
 use Rattle.hv_job.specs.declared.job.DebugLine.{DebugLine}
-use Rattle.hv_job.specs.declared.job.Directive.{Directive}
-use Rattle.hv_job.specs.declared.job.Directive.TheVariants as directive
+use Rattle.hv_line.specs.declared.types.Directive.{Directive}
+use Rattle.hv_line.specs.declared.types.Directive.TheVariants as directive
 use Rattle.hv_job.specs.declared.job.Job.{Job}
 use Rattle.hv_job.specs.declared.job.Placed.{Placed}
 use Rattle.hv_map.specs.Chain.{map_of}
@@ -15,7 +16,7 @@ use Rattle.hv_load.specs.declared.ends.BuildEnd.{BuildEnd}
 use Rattle.hv_load.specs.declared.ends.BuildEnd.TheVariants.{BuildFault, Memory}
 use Rattle.hv_load.specs.declared.ends.BuildKind.{BuildKind}
 use Rattle.hv_load.specs.declared.ends.BuildKind.TheVariants as kind
-use Rattle.hv_load.specs.declared.parts.Asked.{Asked}
+use Rattle.hv_load.specs.declared.parts.PlacedWatch.{PlacedWatch}
 use Rattle.hv_load.specs.declared.start.Named.{Named}
 use Rattle.hv_load.specs.declared.start.Plan.{Plan}
 use Rattle.hv_load.specs.declared.start.Start.{Start}
@@ -94,13 +95,13 @@ abbrev pub command_fault : Building → List DebugLine → Option (ℕ × BuildK
 command_fault b [] = None
 command_fault b (line ∷ lines) = fault_or line.line (command_of b line.what) (command_fault b lines)
 
--- the map of a machine that can be watched has at most 16384 pages
+-- the map of a machine that can be watched has at most as many pages as the storage can have
 abbrev pub can_watch : Option (List Slot) → Bool
 can_watch None = false
-can_watch (Some F) = nat_le (length F) 16384
+can_watch (Some F) = nat_le (length F) pages_limit
 
 -- the first line whose watch can't be
-abbrev pub watch_fault : List ℕ → List Asked → Option ℕ
+abbrev pub watch_fault : List ℕ → List PlacedWatch → Option ℕ
 watch_fault S [] = None
 watch_fault S (asked ∷ rest) =
     if can_watch (map_of S asked.watch.path) then watch_fault S rest else Some asked.line
@@ -108,7 +109,7 @@ watch_fault S (asked ∷ rest) =
 abbrev pub named_of : Known → Named
 named_of k = record { name = k.name; path = k.path }
 
-abbrev pub watch_asked : Asked → Watch
+abbrev pub watch_asked : PlacedWatch → Watch
 watch_asked asked = asked.watch
 
 abbrev pub plan_of : Building → Plan

@@ -7,7 +7,7 @@ use Rattle.hv_load.specs.declared.ends.BuildKind.{BuildKind}
 use Rattle.hv_load.specs.declared.ends.BuildKind.TheVariants as kind
 use Rattle.hv_load.specs.declared.parts.Mark.{Mark}
 use Rattle.hv_load.specs.declared.parts.Mark.TheVariants.{Free}
-use Rattle.hv_load.specs.declared.parts.Asked.{Asked}
+use Rattle.hv_load.specs.declared.parts.PlacedWatch.{PlacedWatch}
 use Rattle.hv_load.specs.declared.start.Dump.{Dump}
 
 -- a machine: its name, the path to it, and how many pages its line gave it
@@ -26,7 +26,7 @@ pub record Building : Type 0 where
   pub machines : ℕ
   pub towered : Bool
   pub harts : List Regs
-  pub watches : List Asked
+  pub watches : List PlacedWatch
   pub dumps : List Dump
 
 -- a step that may be refused, and one that goes on from what it gives

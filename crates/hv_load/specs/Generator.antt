@@ -7,10 +7,14 @@ use Rattle.hv_irq.specs.declared.Event.TheVariants as event
 use Rattle.hv_isa.specs.Table.{row_of, spell}
 use Rattle.hv_isa.specs.declared.Instr.{Instr}
 use Rattle.hv_isa.specs.declared.Op.TheVariants.{Addi, Jal}
-use Rattle.hv_job.specs.declared.job.Directive.TheVariants as directive
+use Rattle.hv_line.specs.declared.types.Directive.TheVariants as directive
 use Rattle.hv_job.specs.declared.job.Job.{Job}
 use Rattle.hv_job.specs.declared.job.Placed.{Placed}
 use Rattle.hv_samples.specs.declared.choice.Sample.TheVariants.{Pass}
+
+-- how many depths generated jobs go through: the bare machine, and towers of one machine and more
+abbrev pub depths : ℕ
+depths = 9
 
 -- the number behind a number
 abbrev pub next : ℕ → ℕ
@@ -92,6 +96,7 @@ job_with depth kernel schedule = record {
   commands = [];
 }
 
--- the job of a number
+-- the job of a number: as many numbers after one another have the same kernel, each at another depth
 unfoldable pub gen_job_of : ℕ → Job
-gen_job_of number = job_with (number % 9) (kernel_of (number / 9)) (schedule_of (number % 9))
+gen_job_of number =
+    job_with (number % depths) (kernel_of (number / depths)) (schedule_of (number % depths))

@@ -2,7 +2,7 @@
 use Rattle.std.specs.Prelude.{ℕ, zero, suc, ◌+◌, List, [], ◌∷◌, Result, Ok, Err, codes}
 use Rattle.hv_asm.specs.Assembly.{asm_of}
 use Rattle.hv_asm.specs.declared.AsmKind.{AsmKind}
-use Rattle.hv_job.specs.declared.job.Directive.TheVariants as directive
+use Rattle.hv_line.specs.declared.types.Directive.TheVariants as directive
 use Rattle.hv_job.specs.declared.job.Placed.{Placed}
 use Rattle.hv_map.specs.Apart.{table_pages}
 use Rattle.hv_samples.specs.declared.choice.Sample.{Sample}

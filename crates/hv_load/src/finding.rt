@@ -9,7 +9,7 @@ ghost use Rattle.hv_load.specs.declared.parts.Mark.TheVariants.{Image};
 
 use crate::ends::BuildKind;
 use crate::pages::{place, reads};
-use crate::parts::{LineEnd, Mark};
+use crate::parts::{DirectiveEnd, Mark};
 use hv_map::Chain;
 use hv_store::Store;
 use std::alloc::Global;
@@ -51,7 +51,7 @@ impl Finding<'_> {
         alloc: Global,
         first: u32,
         count: usize,
-    ) -> Result<Vec<u32>, LineEnd>
+    ) -> Result<Vec<u32>, DirectiveEnd>
         requires { length self.now.marks.now ≡ page_count self.now.store.now }
         ensures places { AnswersList result
             (each_from (place_by (found_by self.now.store.now self.now.marks.now self.now.chain self.now.limit self.now.free)) first count) }

@@ -5,18 +5,22 @@ ghost use Rattle.hv_irq.specs.Events.{total_of};
 ghost use Rattle.hv_limits.specs.Limits.{events_limit, steps_limit};
 ghost use Rattle.hv_isa.specs.Table.{Fits, row_of};
 ghost use Rattle.hv_job.specs.IsJob.{IsJob};
-ghost use Rattle.hv_load.specs.Generator.{addition as addition_of, gen_job_of, jump_back as jump_back_of, kernel_of, lines_of, next as next_of, register as register_of, schedule_of};
+ghost use Rattle.hv_load.specs.Generator.{addition as addition_of, depths, gen_job_of, jump_back as jump_back_of, kernel_of, lines_of, next as next_of, register as register_of, schedule_of};
 
 use crate::levels::name;
-use hv_asm::{Image, Words};
+use hv_asm::Image;
 use hv_irq::{Event, PushEnd, Recording};
 use hv_isa::{Instr, Op, encode};
-use hv_job::{Directive, Items, Job, Placed};
+use hv_job::{Directive, Job, Placed};
+use hv_list::Items;
 use hv_samples::Sample;
 use hv_word::sext;
 use std::alloc::{AllocError, Global};
 
-/// The pages of the storage: those of a tower of 8 machines.
+/// How many depths the jobs go through: the bare machine, and towers of one machine and more.
+pub const DEPTHS: u32 = 9;
+
+/// The pages of the storage: those of the deepest of these towers.
 const PAGES: u32 = 28;
 
 /// The pages of the machine at the top.
@@ -47,8 +51,8 @@ pub fn gen_job(alloc: Global, number: u32) -> Result<Job, AllocError>
     ensures job { IfOk result (λ job. job ≡ gen_job_of number) }
     ensures limits { IfOk result IsJob }
 {
-    let depth = number % 9;
-    let kernel = kernel(alloc, number / 9)?;
+    let depth = number % DEPTHS;
+    let kernel = kernel(alloc, number / DEPTHS)?;
     let recording = schedule(alloc, depth)?;
     let turns = recording.events().len() as u32;
     Ok(Job {
@@ -61,7 +65,7 @@ pub fn gen_job(alloc: Global, number: u32) -> Result<Job, AllocError>
 }
 
 // The words of the kernel.
-fn kernel(alloc: Global, seed: u32) -> Result<Words, AllocError>
+fn kernel(alloc: Global, seed: u32) -> Result<Items<u32>, AllocError>
     ensures { IfOk result (λ words. words ≡ kernel_of seed) }
 {
     let mut words = Vec::new(alloc);
@@ -71,7 +75,7 @@ fn kernel(alloc: Global, seed: u32) -> Result<Words, AllocError>
         words.push(encode(&addition(number)))?;
     }
     words.push(encode(&jump_back()))?;
-    Ok(Words::new(words))
+    Ok(Items::new(words))
 }
 
 // The number behind a number.
@@ -119,7 +123,7 @@ fn jump_back() -> Instr
 // The turns of hart 0.
 #[tactic(auto, unfolding(crate::specs::Generator::schedule_of))]
 fn schedule(alloc: Global, depth: u32) -> Result<Recording, AllocError>
-    requires { depth ≤ 8 }
+    requires { depth < depths }
     ensures { IfOk result (λ recording. recording ≡ schedule_of depth) }
 {
     let mut recording = Recording::new(alloc);
@@ -146,7 +150,12 @@ fn push_turn(recording: &mut Recording, count: u32) -> Result<(), AllocError>
 }
 
 // The directives: the tower, the kernel, the turns and the watch.
-fn lines(alloc: Global, depth: u32, words: Words, turns: u32) -> Result<Vec<Placed>, AllocError>
+fn lines(
+    alloc: Global,
+    depth: u32,
+    words: Items<u32>,
+    turns: u32,
+) -> Result<Vec<Placed>, AllocError>
     requires { turns ≤ events_limit }
     ensures { IfOk result (λ lines. lines.items ≡ lines_of depth words turns) }
 {

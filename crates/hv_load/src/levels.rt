@@ -1,6 +1,7 @@
 //! Machines inside one another, each with a sample that runs the next.
 
 ghost use Rattle.std.specs.Prelude.{◌≡◌, ◌+◌, ◌*◌, ◌<◌, ◌≤◌, ◌^◌, ◌⊎◌, IfOk, length};
+ghost use Rattle.hv_limits.specs.Limits.{depth_limit, pages_limit};
 ghost use Rattle.hv_load.specs.Tower.{grown as grown_of, level_machine as level_machine_of, level_name as level_name_of, level_sample as level_sample_of, sample_words, tower_of};
 ghost use Rattle.hv_samples.specs.declared.choice.Sample.TheVariants.{Pass, Forward};
 
@@ -10,7 +11,7 @@ use hv_job::{Directive, Name, Placed};
 use hv_samples::{Sample, sample};
 use std::alloc::{AllocError, Global};
 
-/// The parts of a tower of `depth` machines (0 to 8), of which the innermost has `pages` pages (1 to 16384): for each level
+/// The parts of a tower of `depth` machines (at most `DEPTH`), of which the innermost has `pages` pages (1 to 16384): for each level
 /// the line of its machine, and of the sample, `Pass` or `Forward`, that runs it. All parts have the line's number.
 pub fn tower(
     alloc: Global,
@@ -19,9 +20,9 @@ pub fn tower(
     which: Sample,
     line: u32,
 ) -> Result<Vec<Placed>, AllocError>
-    requires depth { depth ≤ 8 }
+    requires depth { depth ≤ depth_limit }
     requires some { 1 ≤ pages }
-    requires bound { pages ≤ 16384 }
+    requires bound { pages ≤ pages_limit }
     requires which { (which ≡ Pass) ⊎ (which ≡ Forward) }
     ensures { IfOk result (λ parts. parts.items ≡ tower_of depth pages which line) }
 {
@@ -36,8 +37,8 @@ pub fn tower(
 
 // How many pages a machine has that lies `levels` levels around one of `pages` pages.
 fn grown(pages: u32, levels: u32) -> u32
-    requires pages { pages ≤ 16384 }
-    requires levels { levels ≤ 8 }
+    requires pages { pages ≤ pages_limit }
+    requires levels { levels ≤ depth_limit }
     ensures pages { result ≡ grown_of levels pages }
     ensures bound { result ≤ 2 ^ 16 }
 {
@@ -50,7 +51,7 @@ fn grown(pages: u32, levels: u32) -> u32
 
 // The machine in the one at a level.
 fn level_machine(line: u32, level: u32, pages: u32) -> Placed
-    requires level { level < 8 }
+    requires level { level < depth_limit }
     requires pages { pages ≤ 2 ^ 16 }
     ensures { result ≡ level_machine_of line level pages }
 {
@@ -69,7 +70,7 @@ fn level_machine(line: u32, level: u32, pages: u32) -> Placed
 
 // The sample of the machine at a level.
 fn level_sample(alloc: Global, line: u32, level: u32, which: Sample) -> Result<Placed, AllocError>
-    requires level { level ≤ 8 }
+    requires level { level ≤ depth_limit }
     requires which { (which ≡ Pass) ⊎ (which ≡ Forward) }
     ensures { IfOk result (λ placed. placed ≡ level_sample_of line level which) }
 {
@@ -96,7 +97,7 @@ fn sample_image(alloc: Global, which: Sample) -> Result<Image, AllocError>
 
 /// The name of the machine at a level of a tower.
 pub(crate) fn level_name(level: u32) -> Name
-    requires { level ≤ 8 }
+    requires { level ≤ depth_limit }
     ensures { result ≡ level_name_of level }
 {
     if level == 0 {

@@ -11,7 +11,6 @@ mod ends;
 mod finding;
 mod generating;
 mod levels;
-mod lines;
 mod making;
 mod pages;
 mod parts;
@@ -21,10 +20,10 @@ mod tests;
 
 use builder::Builder;
 pub use ends::{BuildEnd, BuildKind};
-pub use generating::gen_job;
+pub use generating::{DEPTHS, gen_job};
 use hv_job::Job;
 pub use levels::tower;
-use parts::LineEnd;
+use parts::DirectiveEnd;
 pub use start::{Dump, Named, Plan, Start};
 use std::alloc::Global;
 
@@ -38,13 +37,13 @@ pub fn build(alloc: Global, job: &Job) -> Result<Start, BuildEnd>
     for placed in job.lines.as_slice() {
         match builder.line(alloc, placed.line, &placed.what) {
             Ok(()) => {}
-            Err(LineEnd::Fault(kind)) => {
+            Err(DirectiveEnd::Fault(kind)) => {
                 return Err(BuildEnd::BuildFault {
                     line: placed.line,
                     kind,
                 });
             }
-            Err(LineEnd::Memory) => return Err(BuildEnd::Memory),
+            Err(DirectiveEnd::Memory) => return Err(BuildEnd::Memory),
         }
     }
     builder.end(alloc, job.commands.as_slice())

@@ -12,7 +12,7 @@ ghost use Rattle.hv_load.specs.Taking.{Took, taken_in};
 use crate::ends::BuildKind;
 use crate::finding::is_free;
 use crate::pages::writes;
-use crate::parts::{LineEnd, Mark};
+use crate::parts::{DirectiveEnd, Mark};
 use hv_map::Chain;
 use hv_store::Store;
 use std::alloc::Global;
@@ -43,7 +43,7 @@ impl Layout {
         alloc: Global,
         store: &Store,
         chain: &Chain,
-    ) -> Result<Vec<u32>, LineEnd>
+    ) -> Result<Vec<u32>, DirectiveEnd>
         ensures pages { AnswersList result
             (pages_along (Some (map_along store.now chain.now)) self.now.block self.now.pages self.now.table) }
         ensures within { IfOk result (λ pages. All (λ g. g < page_count store.now) pages.items) }

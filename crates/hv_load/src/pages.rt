@@ -11,32 +11,19 @@ ghost use Rattle.hv_load.specs.Pages.{block_page as block_page_of, opened as ope
 use crate::ends::BuildKind;
 use crate::parts::outer;
 use hv_block::{Block, block_word};
-use hv_map::{Chain, Found, Path, Slot, Way, child, pin, resolve};
-use hv_store::{Steps, Store};
+use hv_map::{Chain, Found, Path, Slot, Way, child, page_slot, pin};
+use hv_store::Store;
 use hv_word::field;
-use std::marker::Brand;
-use std::sync::ledger::{Blank, Ledger};
 
 // The slot of a page of the chain's machine, none where it has no such page.
 fn slot(store: &Store, chain: &Chain, page: u64) -> Option<Slot>
     ensures slot { result ≡ slice_get (map_along store.now chain.now) page }
     ensures within { IfSome result (λ s. IsWithin (page_count store.now) (length chain.now) s) }
 {
-    slot_by::<Brand>(store, chain, page, Blank::new(1))
-}
-
-fn slot_by<L: Ledger>(store: &Store, chain: &Chain, page: u64, blank: Blank) -> Option<Slot>
-    requires name { blank.name ≡ L.name }
-    requires parts { blank.parts ≡ L.parts }
-    requires some { 0 < blank.parts }
-    ensures slot { result ≡ slice_get (map_along store.now chain.now) page }
-    ensures within { IfSome result (λ s. IsWithin (page_count store.now) (length chain.now) s) }
-{
-    let mut steps = Steps::<L>::new(blank);
     if page >= u64::from(chain.pages(store)) {
         return None;
     }
-    Some(resolve(store, chain, page as u32, &mut steps))
+    Some(page_slot(store, chain, page as u32))
 }
 
 // The bare page that a way opens.

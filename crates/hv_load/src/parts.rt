@@ -25,7 +25,7 @@ pub(crate) enum Mark {
 
 /// A watch, and the number of the line that asks for it.
 #[derive(Drop)]
-pub(crate) struct Asked {
+pub(crate) struct PlacedWatch {
     pub(crate) line: u32,
     pub(crate) watch: Watch,
 }
@@ -40,13 +40,14 @@ pub(crate) struct Entry {
 
 impl Model for Entry {
     ghost use Rattle.std.specs.Prelude.{◌≤◌};
+    ghost use Rattle.hv_limits.specs.Limits.{pages_limit};
     ghost use Rattle.hv_load.specs.Building.{Known};
 
     ghost Value = { Known };
 
     ghost view = { λ e. record { name = e.name; path = e.path; pages = e.pages } };
 
-    ghost invariant = { λ e. e.pages ≤ 16384 };
+    ghost invariant = { λ e. e.pages ≤ pages_limit };
 }
 
 impl Entry {
@@ -56,7 +57,7 @@ impl Entry {
     {
         Entry {
             name: self.name.copied(),
-            path: copied_path(&self.path),
+            path: self.path.copied(),
             pages: self.pages,
         }
     }
@@ -64,41 +65,41 @@ impl Entry {
 
 /// Why a line isn't done.
 #[derive(Clone, Copy, Debug, PartialEq, Eq)]
-pub(crate) enum LineEnd {
+pub(crate) enum DirectiveEnd {
     Fault(BuildKind),
     Memory,
 }
 
-impl From<BuildKind> for LineEnd {
+impl From<BuildKind> for DirectiveEnd {
     ghost use Rattle.std.specs.Prelude.{◌≡◌};
-    ghost use Rattle.hv_load.specs.declared.parts.LineEnd.TheVariants.{Fault};
+    ghost use Rattle.hv_load.specs.declared.parts.DirectiveEnd.TheVariants.{Fault};
 
     ghost from_gives = { λ kind end. end ≡ Fault kind };
 
-    fn from(kind: BuildKind) -> LineEnd {
-        LineEnd::Fault(kind)
+    fn from(kind: BuildKind) -> DirectiveEnd {
+        DirectiveEnd::Fault(kind)
     }
 }
 
-impl From<AllocError> for LineEnd {
+impl From<AllocError> for DirectiveEnd {
     ghost use Rattle.std.specs.Prelude.{◌≡◌};
-    ghost use Rattle.hv_load.specs.declared.parts.LineEnd.TheVariants.{Memory};
+    ghost use Rattle.hv_load.specs.declared.parts.DirectiveEnd.TheVariants.{Memory};
 
     ghost from_gives = { λ _ end. end ≡ Memory };
 
-    fn from(_error: AllocError) -> LineEnd {
-        LineEnd::Memory
+    fn from(_error: AllocError) -> DirectiveEnd {
+        DirectiveEnd::Memory
     }
 }
 
-impl<T: Drop> From<AllocFailed<T>> for LineEnd {
+impl<T: Drop> From<AllocFailed<T>> for DirectiveEnd {
     ghost use Rattle.std.specs.Prelude.{◌≡◌};
-    ghost use Rattle.hv_load.specs.declared.parts.LineEnd.TheVariants.{Memory};
+    ghost use Rattle.hv_load.specs.declared.parts.DirectiveEnd.TheVariants.{Memory};
 
     ghost from_gives = { λ _ end. end ≡ Memory };
 
-    fn from(_failed: AllocFailed<T>) -> LineEnd {
-        LineEnd::Memory
+    fn from(_failed: AllocFailed<T>) -> DirectiveEnd {
+        DirectiveEnd::Memory
     }
 }
 
@@ -147,13 +148,6 @@ fn path_of(syllables: &[u32]) -> Path
         path.push(*syllable);
     }
     path
-}
-
-/// The same path.
-pub(crate) fn copied_path(path: &Path) -> Path
-    ensures { result ≡ path.now }
-{
-    path_of(path.as_slice())
 }
 
 /// The path to the parent of a machine.

@@ -1,6 +1,7 @@
 //! What a job is built to.
 
-use hv_job::{Items, Name};
+use hv_job::Name;
+use hv_list::Items;
 use hv_map::{Path, Watch};
 use hv_nest::Harts;
 use hv_store::Store;

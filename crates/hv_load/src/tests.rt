@@ -1,6 +1,6 @@
 //! Jobs by hand.
 
-ghost use Rattle.hv_job.specs.IsJob.{IsSize};
+ghost use Rattle.hv_line.specs.Ranges.{IsSize};
 
 use super::*;
 use crate::levels::name;
@@ -8,7 +8,8 @@ use crate::making::Layout;
 use crate::parts::Mark;
 use hv_asm::{Image, assemble};
 use hv_irq::Recording;
-use hv_job::{Directive, Items, Name, Placed};
+use hv_job::{Directive, Name, Placed};
+use hv_list::Items;
 use hv_samples::{Sample, sample};
 use hv_store::Store;
 use std::test::Fail;
@@ -87,8 +88,8 @@ fn a_machine_is_a_block_and_a_table(rt: HostRuntime) -> Result<(), Fail> {
     Ok(())
 }
 
-fn fault(kind: BuildKind) -> Result<(), LineEnd> {
-    Err(LineEnd::Fault(kind))
+fn fault(kind: BuildKind) -> Result<(), DirectiveEnd> {
+    Err(DirectiveEnd::Fault(kind))
 }
 
 #[test]

@@ -3,6 +3,7 @@
 ghost use Rattle.std.specs.Prelude.{◌≡◌, ◌<◌, length};
 
 use super::*;
+use hv_limits::DEPTH;
 use hv_store::{Access, Refusal, Space, Steps, Store};
 use hv_word::Lane;
 use std::alloc::{AllocError, Global};
@@ -80,8 +81,23 @@ fn path(syllables: &[u32]) -> Path {
     path
 }
 
-// A page's slot, with its table words counted.
-fn counted<L: Ledger>(store: &Store, chain: &Chain, page: u32, blank: Blank) -> Option<Slot>
+// The slot of a page of the machine at the end of a path; none where there is no such machine or page.
+fn slot(store: &Store, syllables: &[u32], page: u32) -> Option<Slot> {
+    let chain = pin(store, &path(syllables))?;
+    if page >= chain.pages(store) {
+        return None;
+    }
+    Some(page_slot(store, &chain, page))
+}
+
+// A page's slot, with its table words counted, and the same with its tables noted.
+fn counted<L: Ledger>(
+    store: &Store,
+    chain: &Chain,
+    page: u32,
+    tables: &mut Pages,
+    blank: Blank,
+) -> Option<(Slot, Slot)>
     requires name { blank.name ≡ L.name }
     requires parts { blank.parts ≡ L.parts }
     requires some { 0 < blank.parts }
@@ -90,12 +106,19 @@ fn counted<L: Ledger>(store: &Store, chain: &Chain, page: u32, blank: Blank) -> 
     if page >= chain.pages(store) {
         return None;
     }
-    Some(resolve(store, chain, page, &mut steps))
+    let plain = resolve(store, chain, page, &mut steps);
+    Some((
+        plain,
+        resolve_noting(store, chain, page, tables, &mut steps),
+    ))
 }
 
-// The slot of a page of the machine at the end of a path; none where there is no such machine or page.
-fn slot(store: &Store, syllables: &[u32], page: u32) -> Option<Slot> {
-    counted::<Brand>(store, &pin(store, &path(syllables))?, page, Blank::new(1))
+// Whether both calls find a page in a bare page.
+fn both_open(store: &Store, chain: &Chain, page: u32, tables: &mut Pages, host: u32) -> bool {
+    match counted::<Brand>(store, chain, page, tables, Blank::new(1)) {
+        None => false,
+        Some((plain, noted)) => plain.read == open(host) && noted.read == open(host),
+    }
 }
 
 fn open(host: u32) -> Way {
@@ -170,6 +193,7 @@ fn a_chain_tells_its_blocks(rt: HostRuntime) -> Result<(), Fail> {
     assert_eq!(rt; chain.path().as_slice(), [1, 2].as_slice());
     assert_eq!(rt; chain.pages(&store), 2);
     assert_eq!(rt; chain.len(), 2);
+    assert_eq!(rt; chain.last_block(), Some(6));
     let inner = ChainItem {
         block: 6,
         pages: 2,
@@ -251,6 +275,23 @@ fn a_directory_names_the_tables(rt: HostRuntime) -> Result<(), Fail> {
     assert_eq!(rt; slot(&store, &[1], 0), every(shut(0, 4, 0, None)));
     put(&mut store, &[(1, 67, 1)]);
     assert_eq!(rt; slot(&store, &[1], 0), None);
+    Ok(())
+}
+
+#[test]
+fn tables_are_noted_as_they_are_read(rt: HostRuntime) -> Result<(), Fail> {
+    let store = nested(rt.alloc())?;
+    let mut tables = Pages::new();
+    let inner = pin_noting(&store, &path(&[1, 2]), &mut tables).ok_or("no chain")?;
+    assert_eq!(rt; tables.as_slice(), [2].as_slice());
+    assert!(rt; both_open(&store, &inner, 0, &mut tables, 4));
+    assert_eq!(rt; tables.as_slice(), [2, 5].as_slice());
+    let store = directed(rt.alloc())?;
+    let mut tables = Pages::new();
+    let outer = pin_noting(&store, &path(&[1]), &mut tables).ok_or("no chain")?;
+    assert!(rt; both_open(&store, &outer, 1, &mut tables, 5));
+    assert_eq!(rt; tables.as_slice(), [7, 2].as_slice());
+    assert!(rt; tables.contains(7) && !tables.contains(5) && !tables.full);
     Ok(())
 }
 
@@ -359,7 +400,7 @@ fn a_path_begins_another(rt: HostRuntime) -> Result<(), Fail> {
         hart: 0,
         path: path(&[1, 2]),
     };
-    assert!(rt; path(&[1]).begins(&watch.path));
+    assert!(rt; path(&[1]).copied().begins(&watch.path));
     assert!(rt; !path(&[2]).begins(&watch.path));
     assert!(rt; !path(&[1, 2, 3]).begins(&watch.path));
     assert_eq!(rt; watch.path.len(), 2);

@@ -1,5 +1,5 @@
 -- A page of a machine as text.
-use Rattle.std.specs.Prelude.{ℕ, ◌*◌, Bool, ◌==◌, if◌then◌else◌, List, [], ◌∷◌, ◌++◌, Option, Some, None, codes}
+use Rattle.std.specs.Prelude.{ℕ, ◌*◌, Bool, ◌==◌, if◌then◌else◌, List, [], ◌∷◌, ◌++◌, drop, Option, Some, None, codes}
 use Rattle.std.specs.List.{flat_map, list_all, range_with_len}
 use Rattle.std.specs.Option.{option_and_then}
 use Rattle.std.specs.Fmt.{decimal}
@@ -12,7 +12,7 @@ use Rattle.hv_store.specs.declared.access.Way.TheVariants.{Open, Shut}
 use Rattle.hv_map.specs.Compose.{reading}
 use Rattle.hv_map.specs.Chain.{map_of}
 use Rattle.hv_load.specs.declared.start.Dump.{Dump}
-use Rattle.hv_run.specs.Text.{line, hex_at}
+use Rattle.hv_text.specs.Text.{line, hex8}
 
 -- the bytes of word k of bare page g in the order of their addresses, which is little-endian
 abbrev pub bytes_of : List ℕ → ℕ → ℕ → List ℕ
@@ -22,40 +22,42 @@ bytes_of S g k = to_le_bytes w32 (word_at S g k)
 unfoldable pub words_bytes : List ℕ → ℕ → ℕ → ℕ → List ℕ
 words_bytes S g k n = flat_map (bytes_of S g) (range_with_len k n)
 
--- the 32 bytes of row k of bare page g
-abbrev pub row_bytes : List ℕ → ℕ → ℕ → List ℕ
-row_bytes S g k = words_bytes S g (8 * k) 8
+-- the 32 bytes of line k of bare page g
+abbrev pub line_bytes : List ℕ → ℕ → ℕ → List ℕ
+line_bytes S g k = words_bytes S g (8 * k) 8
 
+-- a byte that is 0
 abbrev pub is_zero : ℕ → Bool
 is_zero byte = byte == 0
 
--- an offset in the page, as three digits
+-- an offset in the page, which is below 4096, as three digits
 abbrev pub offset_text : ℕ → List ℕ
-offset_text offset = hex_at offset 2 ∷ hex_at offset 1 ∷ hex_at offset 0 ∷ []
+offset_text offset = drop 5 (hex8 offset)
 
--- 32 bytes as a line; none where all of them are zero
+-- the 32 bytes of line k as text; none where all of them are zero
 abbrev pub bytes_line : ℕ → List ℕ → List ℕ
 bytes_line k bytes =
     if list_all is_zero bytes then [] else line (offset_text (32 * k) ++ codes " " ++ encode_lower bytes)
 
-abbrev pub row_line : List ℕ → ℕ → ℕ → List ℕ
-row_line S g k = bytes_line k (row_bytes S g k)
+-- line k of bare page g
+abbrev pub page_line : List ℕ → ℕ → ℕ → List ℕ
+page_line S g k = bytes_line k (line_bytes S g k)
 
--- the first n rows of a bare page
-unfoldable pub rows_text : List ℕ → ℕ → ℕ → List ℕ
-rows_text S g n = flat_map (row_line S g) (range_with_len 0 n)
+-- its first n lines
+unfoldable pub first_lines : List ℕ → ℕ → ℕ → List ℕ
+first_lines S g n = flat_map (page_line S g) (range_with_len 0 n)
 
--- its 128 rows
+-- its 128 lines
 abbrev pub page_lines : List ℕ → ℕ → List ℕ
-page_lines S g = rows_text S g 128
+page_lines S g = first_lines S g 128
 
 -- the bare page that a way opens, if it does
 abbrev pub opened_page : Way → Option ℕ
 opened_page (Open g) = Some g
 opened_page (Shut l c p w) = None
 
--- The bare page where a machine reads page i now. There is none where there is no machine at the end of the path, where it
--- doesn't have that page, and where it can't read it.
+-- The bare page where a machine reads page i now. There is none where there is no machine at the end of the path, where
+-- it doesn't have that page, and where it can't read it.
 abbrev pub page_read : List ℕ → List ℕ → ℕ → Option ℕ
 page_read S path i =
     option_and_then (λ (F : List Slot). option_and_then opened_page (reading F i)) (map_of S path)

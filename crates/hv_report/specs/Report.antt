@@ -1,5 +1,6 @@
 -- The text of a report, as bytes. Each line ends in a line feed.
-use Rattle.std.specs.Prelude.{ℕ, ◌<◌, Bool, All, IfSome, if◌then◌else◌, List, [], ◌∷◌, ◌++◌, length, Option, Some, None, slice_get, codes}
+use Rattle.std.specs.Prelude.{ℕ, ◌<◌, Bool, All, IfSome, if◌then◌else◌, List, [], ◌∷◌, ◌++◌, length, Option, Some}
+use Rattle.std.specs.Prelude.{None, slice_get, codes}
 use Rattle.std.specs.List.{flat_map, range_with_len}
 use Rattle.std.specs.Fmt.{decimal}
 use Rattle.hv_word.specs.Storage.{page_count}
@@ -8,8 +9,9 @@ use Rattle.hv_block.specs.Block.{regs_at}
 use Rattle.hv_nest.specs.State.{State}
 use Rattle.hv_nest.specs.Move.{running_of}
 use Rattle.hv_load.specs.declared.start.Plan.{Plan}
-use Rattle.hv_run.specs.Record.{FaultTold, Told, WatchTold}
-use Rattle.hv_run.specs.Text.{line, machine_lines, fault_line}
+use Rattle.hv_run.specs.Record.{FaultRecord, PlayRecord, WatchRecord}
+use Rattle.hv_run.specs.Text.{machine_lines, fault_line}
+use Rattle.hv_text.specs.Text.{line}
 use Rattle.hv_report.specs.Dumps.{dumps_text}
 
 -- each syllable behind a dot
@@ -22,8 +24,12 @@ path_text [] = codes "-"
 path_text (syllable ∷ path) = decimal syllable ++ syllables_text path
 
 -- how many steps were made, and how many of them were faults and recalls
-abbrev pub head_line : Told → List ℕ
-head_line t = line (codes "ran " ++ decimal t.steps ++ codes " faults " ++ decimal t.faults ++ codes " recalls " ++ decimal t.recalls)
+abbrev pub head_line : PlayRecord → List ℕ
+head_line t =
+    line
+    (codes "ran " ++ decimal t.steps
+    ++ codes " faults " ++ decimal t.faults
+    ++ codes " recalls " ++ decimal t.recalls)
 
 -- the path of the machine that a hart runs
 abbrev pub hart_line : ℕ → List ℕ → List ℕ
@@ -41,11 +47,13 @@ first_harts st n = flat_map (hart_text st) (range_with_len 0 n)
 abbrev pub harts_text : State → List ℕ
 harts_text st = first_harts st (length st.harts)
 
+-- an answer
 abbrev pub answer_text : Bool → List ℕ
 answer_text b = if b then codes "yes" else codes "no"
 
--- a watch: whether its machine's pages were one-to-one and lay apart at the start, and whether another machine touched it
-abbrev pub watch_line : WatchTold → List ℕ
+-- a watch: whether its machine's pages were one-to-one and lay apart at the start, and whether another machine touched
+-- it
+abbrev pub watch_line : WatchRecord → List ℕ
 watch_line w =
     line
     (codes "watch " ++ decimal w.hart
@@ -68,25 +76,29 @@ abbrev pub machine_words : State → ℕ → Option ℕ → List ℕ
 machine_words st hart None = words_of (slice_get st.harts hart)
 machine_words st hart (Some g) = block_words st.storage g
 
-abbrev pub watch_text : State → WatchTold → List ℕ
+-- the line of a watch, and the lines of its machine
+abbrev pub watch_text : State → WatchRecord → List ℕ
 watch_text st w = watch_line w ++ machine_lines w.count (machine_words st w.hart w.block) w.lines
 
-unfoldable pub watches_text : State → List WatchTold → List ℕ
+-- all watches
+unfoldable pub watches_text : State → List WatchRecord → List ℕ
 watches_text st watches = flat_map (watch_text st) watches
 
-unfoldable pub faults_text : List FaultTold → List ℕ
+-- a line for each fault
+unfoldable pub faults_text : List FaultRecord → List ℕ
 faults_text faults = flat_map fault_line faults
 
--- The report on a play, by what is told of it, the plan, and the state at its end: the steps, the machines that run, the
--- watches, the faults that are kept, and the pages that are shown.
-unfoldable pub report_of : Told → Plan → State → List ℕ
+-- The report on a play, by what is told of it, the plan, and the state at its end: the steps, the machines that run,
+-- the watches, the faults that are kept, and the pages that are shown.
+unfoldable pub report_of : PlayRecord → Plan → State → List ℕ
 report_of t plan st =
     head_line t
     ++ (harts_text st ++ (watches_text st t.watches ++ (faults_text t.kept ++ dumps_text st.storage plan.dumps)))
 
 -- the hart of a watch is there, and so is the bare page of its machine's block
-abbrev pub IsThere : State → WatchTold → Type 0
+abbrev pub IsThere : State → WatchRecord → Type 0
 IsThere st w = (w.hart < length st.harts) × IfSome w.block (λ g. g < page_count st.storage)
 
-abbrev pub AreThere : State → List WatchTold → Type 0
+-- that holds of all watches
+abbrev pub AreThere : State → List WatchRecord → Type 0
 AreThere st watches = All (IsThere st) watches

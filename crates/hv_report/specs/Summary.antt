@@ -3,14 +3,16 @@ use Rattle.std.specs.Prelude.{ℕ, ◌%◌, ◌^◌, List, ◌++◌, sum, codes}
 use Rattle.std.specs.List.{flat_map}
 use Rattle.std.specs.Fmt.{decimal}
 use Rattle.hv_nest.specs.State.{State}
-use Rattle.hv_run.specs.Record.{Told, WatchTold}
-use Rattle.hv_run.specs.Text.{line, hex8, part}
+use Rattle.hv_run.specs.Record.{PlayRecord, WatchRecord}
+use Rattle.hv_run.specs.Text.{part}
+use Rattle.hv_text.specs.Text.{line, hex8}
 use Rattle.hv_report.specs.Report.{head_line, harts_text, machine_words, watch_line}
 
 -- the sum of x1 to x31 of a machine's 50 words, modulo 2 ^ 32
 abbrev pub sum_of : List ℕ → ℕ
 sum_of words = sum (part words 1 31) % 2 ^ 32
 
+-- the number of a job that was generated, and the depth of its tower
 abbrev pub number_line : ℕ → ℕ → List ℕ
 number_line number depth = line (codes "gen " ++ decimal number ++ codes " depth " ++ decimal depth)
 
@@ -19,13 +21,14 @@ abbrev pub sum_lines : ℕ → List ℕ → List ℕ
 sum_lines count words = line (codes "count " ++ decimal count) ++ line (codes "sum " ++ hex8 (sum_of words))
 
 -- a watch: its line, its count, and the sum of its machine's registers
-abbrev pub summed_watch : State → WatchTold → List ℕ
+abbrev pub summed_watch : State → WatchRecord → List ℕ
 summed_watch st w = watch_line w ++ sum_lines w.count (machine_words st w.hart w.block)
 
-unfoldable pub summed_watches : State → List WatchTold → List ℕ
+-- all watches
+unfoldable pub summed_watches : State → List WatchRecord → List ℕ
 summed_watches st watches = flat_map (summed_watch st) watches
 
 -- the summary of the job that a number generates, by what is told of its play and the state at its end
-unfoldable pub summary_of : ℕ → ℕ → Told → State → List ℕ
+unfoldable pub summary_of : ℕ → ℕ → PlayRecord → State → List ℕ
 summary_of number depth t st =
     number_line number depth ++ (head_line t ++ (harts_text st ++ summed_watches st t.watches))

@@ -5,7 +5,8 @@ ghost use Rattle.hv_report.specs.Check.{checked_text, has_twin as has_twin_of};
 
 use crate::reporting::put_watch_line;
 use hv_limits::KEPT;
-use hv_run::{WatchRow, machine_lines, put};
+use hv_run::{WatchRow, machine_lines};
+use hv_text::put;
 use std::alloc::{AllocError, Global};
 
 /// Whether a bare machine is to be run beside a watched one: its pages were one-to-one and lay apart at the start, no other
@@ -26,7 +27,7 @@ pub fn put_checked(
 ) -> Result<(), AllocError>
     ensures { OnOk result (out.new.items ≡ out.old.items ++ checked_text watch.now words) }
 {
-    put_watch_line(alloc, out, watch)?;
+    put_watch_line(out, watch)?;
     match words {
         Some(words) => {
             let lines = machine_lines(alloc, watch.count, &words, watch.lines.as_slice())?;

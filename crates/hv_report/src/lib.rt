@@ -11,7 +11,7 @@ mod summing;
 pub use checking::{has_twin, put_checked};
 pub use dumps::read_page;
 pub use machine::machine_words;
-pub use puts::{put_number, put_path};
+pub use puts::put_path;
 pub use reporting::{put_hart, report};
 pub use summing::summary;
 

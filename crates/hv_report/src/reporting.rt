@@ -5,11 +5,12 @@ ghost use Rattle.hv_report.specs.Report.{AreThere, IsThere, faults_text, hart_li
 
 use crate::dumps::put_dumps;
 use crate::machine::machine_words;
-use crate::puts::{put_answer, put_number, put_path};
+use crate::puts::{put_answer, put_path};
 use hv_load::Plan;
 use hv_map::Path;
 use hv_nest::Nested;
-use hv_run::{FaultRow, Record, WatchRow, fault_line, machine_lines, put};
+use hv_run::{FaultRow, Record, WatchRow, fault_line, machine_lines};
+use hv_text::{put, put_number};
 use std::alloc::{AllocError, Global};
 
 /// The report on a play, which the engine has made to its end: what was told of it, the machines that run, the watches, the
@@ -27,8 +28,8 @@ pub fn report<N: Nested>(
     ensures same { N.state nested.new ≡ N.state nested.old }
 {
     let mut out = Vec::new(alloc);
-    put_head(alloc, &mut out, played)?;
-    put_harts(alloc, &mut out, nested)?;
+    put_head(&mut out, played)?;
+    put_harts(&mut out, nested)?;
     put_watches(alloc, &mut out, nested, played.watches.as_slice())?;
     put_faults(alloc, &mut out, played.kept.as_slice())?;
     put_dumps(alloc, &mut out, nested.parked(), plan.dumps.as_slice())?;
@@ -36,44 +37,35 @@ pub fn report<N: Nested>(
 }
 
 // Appends how many steps were made, and how many of them were faults and recalls.
-pub(crate) fn put_head(alloc: Global, out: &mut Vec<u8>, played: &Record) -> Result<(), AllocError>
+pub(crate) fn put_head(out: &mut Vec<u8>, played: &Record) -> Result<(), AllocError>
     ensures { OnOk result (out.new.items ≡ out.old.items ++ head_line played.now) }
 {
-    put_number(alloc, out, b"ran ", played.steps)?;
-    put_number(alloc, out, b" faults ", played.faults)?;
-    put_number(alloc, out, b" recalls ", played.recalls)?;
+    put_number(out, b"ran ", played.steps)?;
+    put_number(out, b" faults ", played.faults)?;
+    put_number(out, b" recalls ", played.recalls)?;
     put(out, b"\n")
 }
 
 // Appends the line of each hart.
-#[tactic(auto, unfolding(crate::specs::Report::first_harts), using(crate::proofs::Rows::numbers))]
-pub(crate) fn put_harts<N: Nested>(
-    alloc: Global,
-    out: &mut Vec<u8>,
-    nested: &mut N,
-) -> Result<(), AllocError>
+#[tactic(auto, unfolding(crate::specs::Report::first_harts), using(crate::proofs::Appending::one_more))]
+pub(crate) fn put_harts<N: Nested>(out: &mut Vec<u8>, nested: &mut N) -> Result<(), AllocError>
     ensures text { OnOk result (out.new.items ≡ out.old.items ++ harts_text (N.state nested.old)) }
     ensures same { N.state nested.new ≡ N.state nested.old }
 {
     for hart in 0..nested.harts() {
         let running = nested.running(hart);
-        put_hart(alloc, out, hart, &running)?;
+        put_hart(out, hart, &running)?;
     }
     Ok(())
 }
 
 /// Appends the line of a hart and of the machine that it runs.
-pub fn put_hart(
-    alloc: Global,
-    out: &mut Vec<u8>,
-    hart: u32,
-    running: &Path,
-) -> Result<(), AllocError>
+pub fn put_hart(out: &mut Vec<u8>, hart: u32, running: &Path) -> Result<(), AllocError>
     ensures { OnOk result (out.new.items ≡ out.old.items ++ hart_line hart running.now) }
 {
-    put_number(alloc, out, b"hart ", u64::from(hart))?;
+    put_number(out, b"hart ", u64::from(hart))?;
     put(out, b" ")?;
-    put_path(alloc, out, running)?;
+    put_path(out, running)?;
     put(out, b"\n")
 }
 
@@ -104,23 +96,19 @@ fn put_watch<N: Nested>(
     requires { IsThere (N.state nested.now) watch.now }
     ensures { OnOk result (out.new.items ≡ out.old.items ++ watch_text (N.state nested.now) watch.now) }
 {
-    put_watch_line(alloc, out, watch)?;
+    put_watch_line(out, watch)?;
     let words = machine_words(nested, watch.hart, watch.block);
     let lines = machine_lines(alloc, watch.count, &words, watch.lines.as_slice())?;
     put(out, &lines)
 }
 
 // Appends what holds of a watched machine at the start and over the play.
-pub(crate) fn put_watch_line(
-    alloc: Global,
-    out: &mut Vec<u8>,
-    watch: &WatchRow,
-) -> Result<(), AllocError>
+pub(crate) fn put_watch_line(out: &mut Vec<u8>, watch: &WatchRow) -> Result<(), AllocError>
     ensures { OnOk result (out.new.items ≡ out.old.items ++ watch_line watch.now) }
 {
-    put_number(alloc, out, b"watch ", u64::from(watch.hart))?;
+    put_number(out, b"watch ", u64::from(watch.hart))?;
     put(out, b" ")?;
-    put_path(alloc, out, &watch.path)?;
+    put_path(out, &watch.path)?;
     put_answer(out, b" one=", watch.one)?;
     put_answer(out, b" apart=", watch.apart)?;
     put_answer(out, b" touched=", watch.touched)?;

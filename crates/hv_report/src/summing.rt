@@ -1,15 +1,14 @@
 //! The summary of a generated job.
 
 ghost use Rattle.std.specs.Prelude.{◌≡◌, ◌%◌, ◌^◌, ◌++◌, IfOk, OnOk, sum};
-ghost use Rattle.hv_run.specs.Text.{hex8};
 ghost use Rattle.hv_report.specs.Report.{AreThere, IsThere};
 ghost use Rattle.hv_report.specs.Summary.{number_line, sum_lines, sum_of, summary_of, summed_watch, summed_watches};
 
 use crate::machine::machine_words;
-use crate::puts::put_number;
 use crate::reporting::{put_harts, put_head, put_watch_line};
 use hv_nest::Nested;
-use hv_run::{Record, WatchRow, put, put_hex8};
+use hv_run::{Record, WatchRow};
+use hv_text::{put, put_hex8, put_number};
 use std::alloc::{AllocError, Global};
 
 /// The summary of the play of the job that a number generates, whose tower has this depth: the steps, the machines that run,
@@ -28,31 +27,25 @@ pub fn summary<N: Nested>(
     ensures same { N.state nested.new ≡ N.state nested.old }
 {
     let mut out = Vec::new(alloc);
-    put_number_line(alloc, &mut out, number, depth)?;
-    put_head(alloc, &mut out, played)?;
-    put_harts(alloc, &mut out, nested)?;
-    put_summed(alloc, &mut out, nested, played.watches.as_slice())?;
+    put_number_line(&mut out, number, depth)?;
+    put_head(&mut out, played)?;
+    put_harts(&mut out, nested)?;
+    put_summed(&mut out, nested, played.watches.as_slice())?;
     Ok(out)
 }
 
 // Appends the number, and the depth of its tower.
-fn put_number_line(
-    alloc: Global,
-    out: &mut Vec<u8>,
-    number: u32,
-    depth: u32,
-) -> Result<(), AllocError>
+fn put_number_line(out: &mut Vec<u8>, number: u32, depth: u32) -> Result<(), AllocError>
     ensures { OnOk result (out.new.items ≡ out.old.items ++ number_line number depth) }
 {
-    put_number(alloc, out, b"gen ", u64::from(number))?;
-    put_number(alloc, out, b" depth ", u64::from(depth))?;
+    put_number(out, b"gen ", u64::from(number))?;
+    put_number(out, b" depth ", u64::from(depth))?;
     put(out, b"\n")
 }
 
 // Appends each watch.
 #[tactic(auto, unfolding(crate::specs::Summary::summed_watches))]
 fn put_summed<N: Nested>(
-    alloc: Global,
     out: &mut Vec<u8>,
     nested: &N,
     watches: &[WatchRow],
@@ -61,36 +54,26 @@ fn put_summed<N: Nested>(
     ensures { OnOk result (out.new.items ≡ out.old.items ++ summed_watches (N.state nested.now) watches.now) }
 {
     for watch in watches {
-        put_sum(alloc, out, nested, watch)?;
+        put_sum(out, nested, watch)?;
     }
     Ok(())
 }
 
 // Appends one watch.
-fn put_sum<N: Nested>(
-    alloc: Global,
-    out: &mut Vec<u8>,
-    nested: &N,
-    watch: &WatchRow,
-) -> Result<(), AllocError>
+fn put_sum<N: Nested>(out: &mut Vec<u8>, nested: &N, watch: &WatchRow) -> Result<(), AllocError>
     requires { IsThere (N.state nested.now) watch.now }
     ensures { OnOk result (out.new.items ≡ out.old.items ++ summed_watch (N.state nested.now) watch.now) }
 {
-    put_watch_line(alloc, out, watch)?;
+    put_watch_line(out, watch)?;
     let words = machine_words(nested, watch.hart, watch.block);
-    put_sum_lines(alloc, out, watch.count, &words)
+    put_sum_lines(out, watch.count, &words)
 }
 
 // Appends a count, and the sum of a machine's registers.
-fn put_sum_lines(
-    alloc: Global,
-    out: &mut Vec<u8>,
-    count: u64,
-    words: &[u32; 50],
-) -> Result<(), AllocError>
+fn put_sum_lines(out: &mut Vec<u8>, count: u64, words: &[u32; 50]) -> Result<(), AllocError>
     ensures { OnOk result (out.new.items ≡ out.old.items ++ sum_lines count words.now) }
 {
-    put_number(alloc, out, b"count ", count)?;
+    put_number(out, b"count ", count)?;
     put(out, b"\nsum ")?;
     put_hex8(out, sum_of_words(words))?;
     put(out, b"\n")

@@ -1,8 +1,9 @@
 //! What no clause says: the text of a check as it is read.
 
 use crate::{has_twin, put_checked};
+use hv_list::Items;
 use hv_map::Path;
-use hv_run::{Rows, WatchRow};
+use hv_run::WatchRow;
 use std::test::Fail;
 
 #[test]
@@ -16,7 +17,7 @@ fn writes_that_a_touched_machine_has_no_twin(rt: HostRuntime) -> Result<(), Fail
         touched: true,
         count: 2,
         line_total: 0,
-        lines: Rows::new(Vec::new(rt.alloc())),
+        lines: Items::new(Vec::new(rt.alloc())),
     };
     assert!(rt; !has_twin(&watch));
     let mut text = Vec::new(rt.alloc());

@@ -17,7 +17,7 @@ use Rattle.hv_nest.specs.Routing.{regs_along, hart_along, is_calm, IsRouted}
 use Rattle.hv_nest.specs.Watched.{Tally, no_tally, tally_of, foot, last_block}
 use Rattle.hv_nest.specs.Bare.{bare_of}
 use Rattle.hv_whole.specs.Whole.{own, AreMasked}
-use Rattle.hv_run.specs.Record.{FaultRecord, WatchOf, faults_of}
+use Rattle.hv_run.specs.Record.{FaultRecord, WatchOf, all_faults}
 use Rattle.hv_run.specs.Play.{Played}
 use Rattle.hv_run.specs.Run.{state_at, steps_in, StaysInside}
 use Rattle.hv_run.specs.Stands.{EachWatch, CanWatch, IsSized, StandsFor}
@@ -128,7 +128,7 @@ AreRouted start moves faults = EachFault (IsRoutedFault start moves) faults
 
 -- the same of each fault of the moves from a start
 abbrev pub FaultsAreRouted : State → List Move → Type 0
-FaultsAreRouted start moves = AreRouted start moves (faults_of start moves)
+FaultsAreRouted start moves = AreRouted start moves (all_faults start moves)
 
 -- faults reach the first refusing level, whatever the start and the moves
 abbrev pub FaultsLaw : Type 0

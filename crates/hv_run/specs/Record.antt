@@ -61,8 +61,8 @@ count_of st [] c = c
 count_of st (move ∷ moves) c = count_of (state_after st move) moves (count_after st move c)
 
 -- all faults of the moves from a start, in order
-abbrev pub faults_of : State → List Move → List FaultRecord
-faults_of start moves = (count_of start moves no_count).faults
+abbrev pub all_faults : State → List Move → List FaultRecord
+all_faults start moves = (count_of start moves no_count).faults
 
 -- the last of a list, as many as are kept
 abbrev pub last_kept : {X : Type 0} → List X → List X

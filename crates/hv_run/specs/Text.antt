@@ -21,8 +21,8 @@ abbrev pub part : List ℕ → ℕ → ℕ → List ℕ
 part words at count = take count (drop at words)
 
 -- The lines of a machine's 50 words: pc, x1 to x31, the mode, mstatus, mtvec, mepc, mcause, mtval, mscratch, medeleg,
--- mideleg, mie, mip, stvec, sepc, scause, stval, sscratch, satp, and the page of the machine that it runs. x0 is always
--- 0.
+-- mideleg, mie, mip, stvec, sepc, scause, stval, sscratch, satp, and the page of the machine that it runs.
+-- x0 is always 0.
 unfoldable pub register_lines : List ℕ → List ℕ
 register_lines words =
     state_line (slice_index words 0) (slice_index words 32) (slice_index words 49)
@@ -51,8 +51,8 @@ unfoldable pub fault_line : FaultRecord → List ℕ
 fault_line f =
     line
     (codes "fault " ++ decimal f.step
-    ++ (codes " hart " ++ decimal f.hart)
-    ++ (codes " level " ++ decimal f.receiver)
-    ++ (codes " cause " ++ decimal f.cause)
-    ++ (codes " address " ++ hex8 f.address)
-    ++ (codes " access " ++ decimal (access_word f.access)))
+    ++ codes " hart " ++ decimal f.hart
+    ++ codes " level " ++ decimal f.receiver
+    ++ codes " cause " ++ decimal f.cause
+    ++ codes " address " ++ hex8 f.address
+    ++ codes " access " ++ decimal (access_word f.access))

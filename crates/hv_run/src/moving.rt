@@ -10,9 +10,9 @@ ghost use Rattle.hv_run.specs.Promises.{AreBareRunsWith, IsRoutedIn, fault_in};
 ghost use Rattle.hv_run.specs.Record.{moves_of};
 ghost use Rattle.hv_run.specs.Stands.{CanWatch, EachNew, Follows, StandsFor, watches_of};
 
+use crate::counts::Counts;
 use crate::fault::FaultRow;
 use crate::happened::Happened;
-use crate::counts::Counts;
 use crate::record::{Record, WatchRow};
 use crate::starting::start;
 use crate::watched::Watched;

@@ -28,14 +28,14 @@ s 00000000 00000000 00000000 00000000 00000000 00000000
 ";
 
 #[test]
-fn writes_the_registers(rt: HostRuntime) -> Result<(), Fail> {
+fn registers_are_written_in_rows_of_eight(rt: HostRuntime) -> Result<(), Fail> {
     let text = register_lines(rt.alloc(), &words_after_one_step())?;
     assert_eq!(rt; text.as_slice(), REGISTERS);
     Ok(())
 }
 
 #[test]
-fn writes_the_count_before_and_the_changes_behind(rt: HostRuntime) -> Result<(), Fail> {
+fn the_count_comes_before_and_the_changes_behind(rt: HostRuntime) -> Result<(), Fail> {
     let changes = [
         LineRow {
             count: 11,
@@ -54,7 +54,7 @@ fn writes_the_count_before_and_the_changes_behind(rt: HostRuntime) -> Result<(),
 }
 
 #[test]
-fn writes_a_fault(rt: HostRuntime) -> Result<(), Fail> {
+fn a_fault_is_one_line(rt: HostRuntime) -> Result<(), Fail> {
     let row = FaultRow {
         step: 11,
         hart: 0,
@@ -133,7 +133,7 @@ fn play_changed_entry(alloc: Global, store: Store) -> Result<Option<Record>, All
 }
 
 #[test]
-fn plays_two_harts(rt: HostRuntime) -> Result<(), Fail> {
+fn another_hart_plays_beside_a_watched_machine(rt: HostRuntime) -> Result<(), Fail> {
     let store = changed_entry(rt.alloc())?;
     let record = play_changed_entry(rt.alloc(), store)?.ok_or("no machine")?;
     assert_eq!(rt; record.steps, 13);
@@ -156,7 +156,7 @@ fn plays_two_harts(rt: HostRuntime) -> Result<(), Fail> {
 }
 
 #[test]
-fn keeps_faults_while_it_plays(rt: HostRuntime) -> Result<(), Fail> {
+fn faults_are_kept_while_it_plays(rt: HostRuntime) -> Result<(), Fail> {
     let store = changed_entry(rt.alloc())?;
     let mut plain = Plain::new(store, Harts::new(2));
     let mut play = Play::new(rt.alloc(), &mut plain, &[])?;
@@ -205,7 +205,7 @@ fn play_seen_block(alloc: Global, store: Store) -> Result<Option<Record>, AllocE
 }
 
 #[test]
-fn tells_a_line_in_a_block_that_is_seen(rt: HostRuntime) -> Result<(), Fail> {
+fn a_line_in_a_block_that_is_seen_is_told(rt: HostRuntime) -> Result<(), Fail> {
     let store = seen_block(rt.alloc())?;
     let record = play_seen_block(rt.alloc(), store)?.ok_or("no machine")?;
     for row in record.watches.as_slice() {

@@ -58,7 +58,8 @@ forward_lines =
     codes "        mret" ∷
     []
 
--- the child at page 1 with one table page at page 2; the child's page i is the page 3 + i, made present when it is first missed
+-- the child at page 1 with one table page at page 2; the child's page i is the page 3 + i, made present when it is
+-- first missed
 abbrev pub pager_lines : List (List ℕ)
 pager_lines =
     codes "        li x5, 0x1000" ∷

@@ -8,8 +8,8 @@ use Rattle.hv_cpu.specs.Regs.{reset_regs}
 use Rattle.hv_irq.specs.declared.Event.{Event}
 use Rattle.hv_irq.specs.declared.Event.TheVariants as event
 use Rattle.hv_irq.specs.Events.{hart_of}
-use Rattle.hv_job.specs.declared.job.Directive.{Directive}
-use Rattle.hv_job.specs.declared.job.Directive.TheVariants as directive
+use Rattle.hv_line.specs.declared.types.Directive.{Directive}
+use Rattle.hv_line.specs.declared.types.Directive.TheVariants as directive
 use Rattle.hv_job.specs.declared.job.Job.{Job}
 use Rattle.hv_job.specs.declared.job.Placed.{Placed}
 use Rattle.hv_job.specs.IsJob.{IsJob, Happening, TurnOf, LinesOf, happening_of, event_of as happening_on}

@@ -1,7 +1,7 @@
 -- The instructions of lines, one line more at a time.
 use Rattle.std.proofs.Common.{◌≡◌, ℕ, ◌+◌, Some, None, List, [], ◌∷◌, ◌++◌, length, refl, sym, ap, ◌∙◌, append_assoc, append-nil, codes}
 use Rattle.std.proofs.lemmas.List.{nil_from_length}
-use Rattle.hv_run.specs.Text.{line}
+use Rattle.hv_text.specs.Text.{line}
 use Rattle.hv_lex.specs.Lines.{lines_of, cut_of}
 use Rattle.hv_dis.specs.Dis.{dis_of}
 use Rattle.hv_top.specs.Dis.{word_in, dis_with, dis_from}

@@ -3,21 +3,20 @@ use Rattle.std.proofs.Common.{◌≡◌, List, subst}
 use Rattle.hv_load.specs.declared.start.Start.{Start}
 use Rattle.hv_nest.specs.State.{State}
 use Rattle.hv_nest.specs.Move.{Move}
-use Rattle.hv_run.specs.Promises.{AreBareRuns, AreRouted}
-use Rattle.hv_run.specs.Record.{Told, WatchOf, record_of}
+use Rattle.hv_run.specs.Promises.{AreBareRuns, FaultsAreRouted}
+use Rattle.hv_run.specs.Record.{WatchOf}
 use Rattle.hv_run.specs.Stands.{watches_of}
 use Rattle.hv_top.specs.Run.{PlayIsPromised, state_of}
 use Rattle.hv_top.proofs.Shown.{shown}
 
-pub promised : (start : Start) (all : List Move) (plain : State) (moves : List Move) (ws : List WatchOf) (t : Told)
+pub promised : (start : Start) (all : List Move) (plain : State) (moves : List Move) (ws : List WatchOf)
     → plain ≡ state_of start
     → moves ≡ all
     → ws ≡ watches_of start.plan.watches
-    → t ≡ record_of plain moves ws
     → AreBareRuns plain moves ws
-    → AreRouted plain moves t.kept
+    → FaultsAreRouted plain moves
     → PlayIsPromised all start
-promised start all plain moves ws t begun same watched told guests routed =
+promised start all plain moves ws begun same watched guests routed =
     let watches : List WatchOf = watches_of start.plan.watches in
     let bare : AreBareRuns (state_of start) all watches =
     subst (λ (st : State). AreBareRuns st all watches) begun
@@ -28,8 +27,6 @@ promised start all plain moves ws t begun same watched told guests routed =
       guests = bare;
       shown = shown (state_of start) all watches bare;
       routed =
-          subst (λ (st : State). AreRouted st all (record_of st all watches).kept) begun
-          (subst (λ (ms : List Move). AreRouted plain ms (record_of plain ms watches).kept) same
-          (subst (λ (xs : List WatchOf). AreRouted plain moves (record_of plain moves xs).kept) watched
-          (subst (λ (u : Told). AreRouted plain moves u.kept) told routed)));
+          subst (λ (st : State). FaultsAreRouted st all) begun
+          (subst (λ (ms : List Move). FaultsAreRouted plain ms) same routed);
     }

@@ -18,7 +18,7 @@ use Rattle.hv_whole.proofs.Readings.{regs_last}
 use Rattle.hv_report.specs.Report.{machine_words, words_of}
 use Rattle.hv_report.specs.Check.{hart_regs, watched_regs, bare_words, checked_text}
 use Rattle.hv_run.specs.Promises.{AreBareRuns, HasRegisters, IsAsBare, IsBareRun, twin_after}
-use Rattle.hv_run.specs.Record.{WatchOf, told_by}
+use Rattle.hv_run.specs.Record.{WatchOf, watch_record}
 use Rattle.hv_limits.specs.Limits.{kept_limit}
 use Rattle.hv_run.proofs.Guests.{at_last}
 use Rattle.hv_top.specs.Shown.{IsShownBy, IsShown, AreShown, tally_over}
@@ -75,7 +75,7 @@ module _ (start last : State) (w : WatchOf) (items : List Item) (t : Tally) wher
 
   -- those of the bare machine that `check` runs
   twin_words_of : length t.changes ≤ kept_limit
-      → bare_words start (told_by w start items t) (map_along start.storage items)
+      → bare_words start (watch_record w start items t) (map_along start.storage items)
       ≡ machine_words (twin_after start w items t) 0 None
   twin_words_of few =
       let saw = seen start.storage (map_along start.storage items) in
@@ -85,7 +85,7 @@ module _ (start last : State) (w : WatchOf) (items : List Item) (t : Tally) wher
 
   -- those that it tells, by whether there is a twin
   abbrev told_twin : Bool → Option (List ℕ)
-  told_twin b = cond b (option_map (bare_words start (told_by w start items t)) (map_of start.storage w.path)) None
+  told_twin b = cond b (option_map (bare_words start (watch_record w start items t)) (map_of start.storage w.path)) None
 
   pub shown_by : pin_of start.storage w.path ≡ Some items
       → is_one start.storage items ≡ true
@@ -94,7 +94,7 @@ module _ (start last : State) (w : WatchOf) (items : List Item) (t : Tally) wher
       → IsAsBare start w items last (twin_after start w items t)
       → IsShownBy start last w items t
   shown_by is one apart quiet alike =
-      let told = told_by w start items t in
+      let told = watch_record w start items t in
       let by_map = λ (o : Option (List Item)). option_map (bare_words start told) (option_map (map_along start.storage) o) in
       record {
         run = run_words alike;

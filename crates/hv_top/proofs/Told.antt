@@ -12,7 +12,7 @@ use Rattle.hv_map.specs.Chain.{pin_of}
 use Rattle.hv_nest.specs.State.{State}
 use Rattle.hv_nest.specs.Move.{Move, StepOf, LinesOf, state_after}
 use Rattle.hv_nest.specs.Watched.{Tally, no_tally, is_counted, beside, tally_after, tally_of, foot, last_block}
-use Rattle.hv_run.specs.Record.{WatchOf, schedule, told_by, told_at, record_of}
+use Rattle.hv_run.specs.Record.{WatchOf, schedule, watch_record, watch_records, record_of}
 use Rattle.hv_limits.specs.Limits.{kept_limit}
 use Rattle.hv_run.specs.Run.{steps_in}
 use Rattle.hv_run.specs.Stands.{EachWatch, IsPinned, IsWatchable, CanWatch}
@@ -69,14 +69,14 @@ steps_scheduled (Lines hart mask ∷ events) =
     ∙ sym (sum_by-cons steps_of (Lines hart mask) events)
 
 module _ (start : State) (moves : List Move) (few : steps_in moves ≤ 10 ^ 9) where
-  row_one : (w : WatchOf) → IsWatchable start w → All (IsRow start) (told_at w start moves (pin_of start.storage w.path))
+  row_one : (w : WatchOf) → IsWatchable start w → All (IsRow start) (watch_records w start moves (pin_of start.storage w.path))
   row_one w can = at (pin_of start.storage w.path) refl can.machine
     where
-      at : (o : Option (List Item)) → pin_of start.storage w.path ≡ o → IsPinned start.storage o → All (IsRow start) (told_at w start moves o)
+      at : (o : Option (List Item)) → pin_of start.storage w.path ≡ o → IsPinned start.storage o → All (IsRow start) (watch_records w start moves o)
       at None is h = absurd h
       at (Some items) is h =
           let ft = foot start.storage items in
-          All-cons (IsRow start) (told_by w start items (tally_of w.hart w.path items ft start moves no_tally)) []
+          All-cons (IsRow start) (watch_record w start items (tally_of w.hart w.path items ft start moves no_tally)) []
           record {
             hart = can.hart;
             machine = subst (IsMachine start.storage (last_block items)) (sym is) (refl, h);
@@ -86,9 +86,9 @@ module _ (start : State) (moves : List Move) (few : steps_in moves ≤ 10 ^ 9) w
           }
           (All-nil (IsRow start))
 
-  row_each : (ws : List WatchOf) → EachWatch (IsWatchable start) ws → All (IsRow start) (flat_map (λ (w : WatchOf). told_at w start moves (pin_of start.storage w.path)) ws)
+  row_each : (ws : List WatchOf) → EachWatch (IsWatchable start) ws → All (IsRow start) (flat_map (λ (w : WatchOf). watch_records w start moves (pin_of start.storage w.path)) ws)
   row_each [] can = All-nil (IsRow start)
-  row_each (w ∷ ws) can = All-append (IsRow start) (told_at w start moves (pin_of start.storage w.path)) (flat_map (λ (w : WatchOf). told_at w start moves (pin_of start.storage w.path)) ws) (row_one w can.0) (row_each ws can.1)
+  row_each (w ∷ ws) can = All-append (IsRow start) (watch_records w start moves (pin_of start.storage w.path)) (flat_map (λ (w : WatchOf). watch_records w start moves (pin_of start.storage w.path)) ws) (row_one w can.0) (row_each ws can.1)
 
   pub rows : (ws : List WatchOf) → CanWatch start ws → All (IsRow start) (record_of start moves ws).watches
   unfolding record_of

@@ -10,7 +10,7 @@ use Rattle.hv_map.specs.Chain.{map_along, pin_of}
 use Rattle.hv_nest.specs.State.{State}
 use Rattle.hv_nest.specs.Watched.{last_block}
 use Rattle.hv_report.specs.Check.{check_of}
-use Rattle.hv_run.specs.Record.{WatchTold, schedule}
+use Rattle.hv_run.specs.Record.{WatchRecord, schedule}
 use Rattle.hv_twin.specs.Twin.{NeverFalls}
 use Rattle.hv_top.specs.Jobs.{told_output}
 use Rattle.hv_top.specs.Output.{Output}
@@ -38,7 +38,7 @@ IsMachine S block None = ⊥
 IsMachine S block (Some items) = (block ≡ last_block items) × (length (map_along S items) ≤ pages_limit)
 
 -- what always holds of what is told of a watch
-pub record IsRow (start : State) (w : WatchTold) : Type 0 where
+pub record IsRow (start : State) (w : WatchRecord) : Type 0 where
   pub hart : w.hart < length start.harts
   pub machine : IsMachine start.storage w.block (pin_of start.storage w.path)
   pub steps : w.count ≤ steps_limit

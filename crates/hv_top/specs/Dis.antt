@@ -1,6 +1,6 @@
 -- Words, a line each, as the instructions that they are.
 use Rattle.std.specs.Prelude.{ℕ, ◌+◌, ◌==◌, if◌then◌else◌, List, [], ◌∷◌, ◌++◌, length, Option, Some, None, codes}
-use Rattle.hv_run.specs.Text.{line}
+use Rattle.hv_text.specs.Text.{line}
 use Rattle.hv_lex.specs.Lines.{lines_of}
 use Rattle.hv_lex.specs.Numbers.{number_of}
 use Rattle.hv_dis.specs.Dis.{dis_of}

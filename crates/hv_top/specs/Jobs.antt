@@ -1,49 +1,19 @@
 -- What is written for a text: what is told of its job and of the start that the job is built to, or the refusal of the
 -- first line that is refused, in the text or else when the job is built.
-use Rattle.std.specs.Prelude.{ℕ, List, Result, Ok, Err, codes}
+use Rattle.std.specs.Prelude.{ℕ, List, Result, Ok, Err}
 use Rattle.hv_job.specs.JobOf.{job_of}
 use Rattle.hv_job.specs.declared.job.Job.{Job}
-use Rattle.hv_job.specs.declared.ends.JobKind.{JobKind}
-use Rattle.hv_job.specs.declared.ends.JobKind.TheVariants as job
+use Rattle.hv_line.specs.declared.kinds.JobKind.{JobKind}
+use Rattle.hv_line.specs.Kinds.{kind_word}
 use Rattle.hv_load.specs.Build.{build_of}
 use Rattle.hv_load.specs.declared.ends.BuildKind.{BuildKind}
-use Rattle.hv_load.specs.declared.ends.BuildKind.TheVariants as build
+use Rattle.hv_load.specs.Kinds.{kind_word as build_word}
 use Rattle.hv_load.specs.declared.start.Start.{Start}
 use Rattle.hv_top.specs.Output.{Output, Text, refusal}
 
--- why a line of a job is refused
-abbrev pub job_kind_text : JobKind → List ℕ
-job_kind_text job.Byte = codes "byte"
-job_kind_text job.Header = codes "header"
-job_kind_text job.Storage = codes "storage"
-job_kind_text job.Directive = codes "directive"
-job_kind_text job.Words = codes "words"
-job_kind_text job.Name = codes "name"
-job_kind_text job.Number = codes "number"
-job_kind_text job.Range = codes "range"
-job_kind_text job.Repeat = codes "repeat"
-job_kind_text job.Many = codes "many"
-job_kind_text job.Open = codes "open"
-job_kind_text job.Syntax = codes "syntax"
-job_kind_text job.Mnemonic = codes "mnemonic"
-job_kind_text job.Operand = codes "operand"
-job_kind_text job.Label = codes "label"
-
--- why a directive can't be done
-abbrev pub build_kind_text : BuildKind → List ℕ
-build_kind_text build.Hart = codes "hart"
-build_kind_text build.Many = codes "many"
-build_kind_text build.Unknown = codes "unknown"
-build_kind_text build.Depth = codes "depth"
-build_kind_text build.Repeat = codes "repeat"
-build_kind_text build.Outside = codes "outside"
-build_kind_text build.Absent = codes "absent"
-build_kind_text build.Overlap = codes "overlap"
-build_kind_text build.Watch = codes "watch"
-
 abbrev pub built_output : (Job → Start → List ℕ) → Job → Result Start (ℕ × BuildKind) → Output
 built_output tell job (Ok start) = Text (tell job start)
-built_output tell job (Err (number, kind)) = refusal number (build_kind_text kind)
+built_output tell job (Err (number, kind)) = refusal number (build_word kind)
 
 -- what is told of a job and its start, or the refusal of the first line that can't be built
 abbrev pub started_output : (Job → Start → List ℕ) → Job → Output
@@ -51,7 +21,7 @@ started_output tell job = built_output tell job (build_of job)
 
 abbrev pub parsed_output : (Job → Start → List ℕ) → Result Job (ℕ × JobKind) → Output
 parsed_output tell (Ok job) = started_output tell job
-parsed_output tell (Err (number, kind)) = refusal number (job_kind_text kind)
+parsed_output tell (Err (number, kind)) = refusal number (kind_word kind)
 
 -- the same of the job that a text is, or the refusal of the first line for which it is none
 abbrev pub told_output : (Job → Start → List ℕ) → List ℕ → Output

@@ -1,7 +1,7 @@
 -- What is written for an input: a text, or the line that refuses the input; and when each status comes.
 use Rattle.std.specs.Prelude.{◌≡◌, ◌≢◌, ◌⊎◌, ℕ, List, ◌++◌, codes}
 use Rattle.std.specs.Fmt.{decimal}
-use Rattle.hv_run.specs.Text.{line}
+use Rattle.hv_text.specs.Text.{line}
 use Rattle.hv_top.specs.declared.TheConstants.{DONE, REFUSED, WRITE_FAULT, NO_MEMORY}
 
 -- the text of a command, or the line that refuses its input
@@ -17,6 +17,7 @@ text_of (Refusal text) = text
 abbrev pub refusal_line : ℕ → List ℕ → List ℕ
 refusal_line number kind = line (codes "refused line " ++ decimal number ++ codes ": " ++ kind)
 
+-- a refusal of the line of this number
 abbrev pub refusal : ℕ → List ℕ → Output
 refusal number kind = Refusal (refusal_line number kind)
 

@@ -2,15 +2,15 @@
 use Rattle.std.specs.Prelude.{ℕ, List, Result, Ok, Err}
 use Rattle.hv_job.specs.JobOf.{job_of}
 use Rattle.hv_job.specs.declared.job.Job.{Job}
-use Rattle.hv_job.specs.declared.ends.JobKind.{JobKind}
+use Rattle.hv_line.specs.declared.kinds.JobKind.{JobKind}
 use Rattle.hv_load.specs.Build.{build_of}
 use Rattle.hv_load.specs.declared.ends.BuildKind.{BuildKind}
 use Rattle.hv_load.specs.declared.start.Start.{Start}
 use Rattle.hv_nest.specs.State.{State}
 use Rattle.hv_nest.specs.Move.{Move, last_of}
 use Rattle.hv_report.specs.Report.{report_of}
-use Rattle.hv_run.specs.Promises.{AreBareRuns, AreRouted}
-use Rattle.hv_run.specs.Record.{Told, record_of, schedule}
+use Rattle.hv_run.specs.Promises.{AreBareRuns, FaultsAreRouted}
+use Rattle.hv_run.specs.Record.{PlayRecord, record_of, schedule}
 use Rattle.hv_run.specs.Stands.{watches_of}
 use Rattle.hv_top.specs.Jobs.{told_output}
 use Rattle.hv_top.specs.Output.{Output}
@@ -21,7 +21,7 @@ abbrev pub state_of : Start → State
 state_of start = record { storage = start.store; harts = start.harts }
 
 -- what a play of these moves from a start tells
-abbrev pub record_on : List Move → Start → Told
+abbrev pub record_on : List Move → Start → PlayRecord
 record_on moves start = record_of (state_of start) moves (watches_of start.plan.watches)
 
 -- the report on the start of a job, which is played to the end of the job's schedule
@@ -34,12 +34,12 @@ unfoldable pub run_output : List ℕ → Output
 run_output text = told_output report_on text
 
 -- What is promised of a start that is played by these moves: a watched machine that stands apart at the start is at
--- each moment, up to the first touch, a bare machine that runs alone, and the program shows it; and each fault that is
--- told reached the first level that refuses.
+-- each moment, up to the first touch, a bare machine that runs alone, and the program shows it; and each fault of the
+-- play reached the first level that refuses.
 pub record PlayIsPromised (moves : List Move) (start : Start) : Type 0 where
   pub guests : AreBareRuns (state_of start) moves (watches_of start.plan.watches)
   pub shown : AreShown (state_of start) moves (watches_of start.plan.watches)
-  pub routed : AreRouted (state_of start) moves (record_on moves start).kept
+  pub routed : FaultsAreRouted (state_of start) moves
 
 abbrev pub StartIsPromised : List Move → Result Start (ℕ × BuildKind) → Type 0
 StartIsPromised moves (Ok start) = PlayIsPromised moves start

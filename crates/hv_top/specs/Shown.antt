@@ -9,21 +9,21 @@ use Rattle.hv_nest.specs.Watched.{Tally, no_tally, tally_of, foot, last_block}
 use Rattle.hv_report.specs.Report.{machine_words, watch_line, watch_text}
 use Rattle.hv_report.specs.Check.{checked_watch}
 use Rattle.hv_run.specs.Promises.{twin_after}
-use Rattle.hv_run.specs.Record.{WatchOf, told_by}
+use Rattle.hv_run.specs.Record.{WatchOf, watch_record}
 use Rattle.hv_limits.specs.Limits.{kept_limit}
-use Rattle.hv_run.specs.Text.{line}
+use Rattle.hv_text.specs.Text.{line}
 use Rattle.hv_run.specs.Stands.{EachWatch}
 
 -- what `check` writes of a watch, and what the report writes of it
 abbrev pub text_alone : State → WatchOf → List Item → Tally → List ℕ
-text_alone start w items t = checked_watch start (told_by w start items t)
+text_alone start w items t = checked_watch start (watch_record w start items t)
 
 abbrev pub text_reported : (start last : State) → WatchOf → List Item → Tally → List ℕ
-text_reported start last w items t = watch_text last (told_by w start items t)
+text_reported start last w items t = watch_text last (watch_record w start items t)
 
 -- what `check` writes of a watch beside which no bare machine was run
 abbrev pub text_without_twin : State → WatchOf → List Item → Tally → List ℕ
-text_without_twin start w items t = watch_line (told_by w start items t) ++ line (codes "twin none")
+text_without_twin start w items t = watch_line (watch_record w start items t) ++ line (codes "twin none")
 
 -- The words that the report has of the watched machine are those of the bare machine that began with what it saw, and
 -- ran alone with all changes of lines. Where all of these are kept, `check` writes the same text of the watch as the

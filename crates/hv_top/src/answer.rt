@@ -12,8 +12,7 @@ use crate::debugging::debugged;
 use crate::dis::disassembled;
 use crate::generating::generated;
 use crate::running::reported;
-use hv_report::put_number;
-use hv_run::put;
+use hv_text::{put, put_line, put_number};
 use hv_words::Command;
 use std::alloc::{AllocError, Global};
 
@@ -54,14 +53,13 @@ pub fn written(text: Vec<u8>) -> Answer
 }
 
 /// The refusal of the line of this number.
-pub fn refused(alloc: Global, line: u32, kind: &[u8]) -> Result<Answer, AllocError>
+pub fn refused(alloc: Global, line: u32, kind: &str) -> Result<Answer, AllocError>
     ensures { IfOk result (λ answer. output_in answer ≡ refusal line kind.now) }
 {
     let mut text = Vec::new(alloc);
-    put_number(alloc, &mut text, b"refused line ", u64::from(line))?;
+    put_number(&mut text, b"refused line ", u64::from(line))?;
     put(&mut text, b": ")?;
-    put(&mut text, kind)?;
-    put(&mut text, b"\n")?;
+    put_line(&mut text, kind.as_bytes())?;
     Ok(Answer {
         text,
         refused: true,

@@ -3,11 +3,11 @@
 ghost use Rattle.std.specs.Prelude.{◌≡◌, ◌≤◌, ◌++◌, length, IfOk, OnOk};
 ghost use Rattle.hv_limits.specs.Limits.{input_limit};
 ghost use Rattle.hv_top.specs.Answer.{output_in};
-ghost use Rattle.hv_top.specs.Asm.{asm_kind_text, asm_output, word_lines};
+ghost use Rattle.hv_top.specs.Asm.{asm_output, word_lines};
 
 use crate::answer::{Answer, refused, written};
-use hv_asm::{AsmEnd, AsmKind, assemble};
-use hv_run::{put, put_hex8};
+use hv_asm::{AsmEnd, assemble};
+use hv_text::{hex8, put_line};
 use std::alloc::{AllocError, Global};
 
 /// The words of an assembly text whose first address is 0, each as eight hexadecimal digits on a line of its own, or the
@@ -22,7 +22,7 @@ pub fn assembled(alloc: Global, input: &[u8]) -> Result<Answer, AllocError>
             put_words(&mut text, image.words.as_slice())?;
             Ok(written(text))
         }
-        Err(AsmEnd::AsmFault { line, kind }) => refused(alloc, line, kind_text(kind)),
+        Err(AsmEnd::AsmFault { line, kind }) => refused(alloc, line, kind.word()),
         Err(AsmEnd::Memory) => Err(AllocError),
     }
 }
@@ -33,23 +33,7 @@ fn put_words(out: &mut Vec<u8>, words: &[u32]) -> Result<(), AllocError>
     ensures { OnOk result (out.new.items ≡ out.old.items ++ word_lines words.now) }
 {
     for word in words {
-        put_hex8(out, *word)?;
-        put(out, b"\n")?;
+        put_line(out, &hex8(*word))?;
     }
     Ok(())
-}
-
-// Why a line of assembly is refused.
-fn kind_text(kind: AsmKind) -> &'static [u8]
-    ensures { result.now ≡ asm_kind_text kind }
-{
-    match kind {
-        AsmKind::Byte => b"byte",
-        AsmKind::Syntax => b"syntax",
-        AsmKind::Repeat => b"repeat",
-        AsmKind::Mnemonic => b"mnemonic",
-        AsmKind::Operand => b"operand",
-        AsmKind::Label => b"label",
-        AsmKind::Range => b"range",
-    }
 }

@@ -26,8 +26,9 @@ use hv_job::Job;
 use hv_load::{BuildEnd, Start, build};
 use hv_map::pin;
 use hv_report::{has_twin, put_checked};
-use hv_run::{WatchRow, put};
+use hv_run::WatchRow;
 use hv_store::Store;
+use hv_text::put;
 use hv_twin::{bare_run, seen};
 use std::alloc::{AllocError, Global};
 

@@ -3,14 +3,14 @@
 ghost use Rattle.std.specs.Prelude.{◌≡◌, ◌≤◌, ◌++◌, length, IfOk, OnOk};
 ghost use Rattle.hv_dis.specs.Dis.{dis_of};
 ghost use Rattle.hv_limits.specs.Limits.{input_limit};
-ghost use Rattle.hv_run.specs.Text.{line as line_of};
+ghost use Rattle.hv_text.specs.Text.{line as line_of};
 ghost use Rattle.hv_top.specs.Answer.{output_in};
 ghost use Rattle.hv_top.specs.Dis.{dis_output, word_in};
 
 use crate::answer::{Answer, refused, written};
 use hv_dis::disassemble;
 use hv_lex::{first_line, read_number};
-use hv_run::put;
+use hv_text::put_line;
 use std::alloc::{AllocError, Global};
 
 /// The instruction of each line, or the refusal of the first line that isn't exactly eight hexadecimal digits.
@@ -24,7 +24,7 @@ pub fn disassembled(alloc: Global, input: &[u8]) -> Result<Answer, AllocError>
     while !rest.is_empty() {
         let (line, behind) = first_line(rest);
         let Some(word) = word(line) else {
-            return refused(alloc, number, b"number");
+            return refused(alloc, number, "number");
         };
         put_instruction(alloc, &mut text, word)?;
         number += 1;
@@ -51,6 +51,5 @@ fn put_instruction(alloc: Global, out: &mut Vec<u8>, word: u32) -> Result<(), Al
     ensures { OnOk result (out.new.items ≡ out.old.items ++ line_of (dis_of word)) }
 {
     let instruction = disassemble(alloc, word)?;
-    put(out, instruction.as_bytes())?;
-    put(out, b"\n")
+    put_line(out, instruction.as_bytes())
 }

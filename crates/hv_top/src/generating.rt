@@ -13,7 +13,7 @@ ghost use Rattle.hv_top.specs.Run.{PlayIsPromised, JobIsPromised};
 use crate::answer::{Answer, written};
 use crate::playing::play_out;
 use hv_job::Job;
-use hv_load::{BuildEnd, Start, build, gen_job};
+use hv_load::{BuildEnd, DEPTHS, Start, build, gen_job};
 use hv_report::summary;
 use std::alloc::{AllocError, Global};
 
@@ -45,5 +45,5 @@ fn summed(alloc: Global, number: u32, job: &Job, start: Start) -> Result<Vec<u8>
     ensures promised { OnOk result (PlayIsPromised (schedule job.now.recording) start) }
 {
     let mut end = play_out(alloc, job, start)?;
-    summary(alloc, &mut end.plain, &end.record, number, number % 9)
+    summary(alloc, &mut end.plain, &end.record, number, number % DEPTHS)
 }

@@ -3,12 +3,11 @@
 ghost use Rattle.std.specs.Prelude.{◌≡◌, ◌≤◌, length, IfOk};
 ghost use Rattle.hv_limits.specs.Limits.{input_limit};
 ghost use Rattle.hv_job.specs.IsJob.{IsJob};
-ghost use Rattle.hv_top.specs.Jobs.{build_kind_text as build_kind_text_of, job_kind_text as job_kind_text_of};
 ghost use Rattle.hv_top.specs.Opening.{IsOpening, IsStarting};
 
 use crate::answer::{Answer, refused};
-use hv_job::{Job, JobEnd, JobKind, parse_job};
-use hv_load::{BuildEnd, BuildKind, Start, build};
+use hv_job::{Job, JobEnd, parse_job};
+use hv_load::{BuildEnd, Start, build};
 use std::alloc::{AllocError, Global};
 
 /// A job with the start that it is built to, or the refusal of the first line that is refused.
@@ -28,7 +27,7 @@ pub fn opened(alloc: Global, input: &[u8]) -> Result<Opening, AllocError>
     match parse_job(alloc, input) {
         Ok(job) => started(alloc, job),
         Err(JobEnd::JobFault { line, kind }) => {
-            let answer = refused(alloc, line, job_kind_text(kind))?;
+            let answer = refused(alloc, line, kind.word())?;
             Ok(Opening::Refused(answer))
         }
         Err(JobEnd::Memory) => Err(AllocError),
@@ -44,49 +43,9 @@ fn started(alloc: Global, job: Job) -> Result<Opening, AllocError>
     match build(alloc, &job) {
         Ok(start) => Ok(Opening::Ready { job, start }),
         Err(BuildEnd::BuildFault { line, kind }) => {
-            let answer = refused(alloc, line, build_kind_text(kind))?;
+            let answer = refused(alloc, line, kind.word())?;
             Ok(Opening::Refused(answer))
         }
         Err(BuildEnd::Memory) => Err(AllocError),
-    }
-}
-
-// Why a line of a job is refused.
-fn job_kind_text(kind: JobKind) -> &'static [u8]
-    ensures { result.now ≡ job_kind_text_of kind }
-{
-    match kind {
-        JobKind::Byte => b"byte",
-        JobKind::Header => b"header",
-        JobKind::Storage => b"storage",
-        JobKind::Directive => b"directive",
-        JobKind::Words => b"words",
-        JobKind::Name => b"name",
-        JobKind::Number => b"number",
-        JobKind::Range => b"range",
-        JobKind::Repeat => b"repeat",
-        JobKind::Many => b"many",
-        JobKind::Open => b"open",
-        JobKind::Syntax => b"syntax",
-        JobKind::Mnemonic => b"mnemonic",
-        JobKind::Operand => b"operand",
-        JobKind::Label => b"label",
-    }
-}
-
-// Why a directive can't be done.
-fn build_kind_text(kind: BuildKind) -> &'static [u8]
-    ensures { result.now ≡ build_kind_text_of kind }
-{
-    match kind {
-        BuildKind::Hart => b"hart",
-        BuildKind::Many => b"many",
-        BuildKind::Unknown => b"unknown",
-        BuildKind::Depth => b"depth",
-        BuildKind::Repeat => b"repeat",
-        BuildKind::Outside => b"outside",
-        BuildKind::Absent => b"absent",
-        BuildKind::Overlap => b"overlap",
-        BuildKind::Watch => b"watch",
     }
 }

@@ -2,13 +2,14 @@
 use Rattle.std.proofs.Common.{◌≡◌, ℕ, zero, suc, ◌+◌, ◌*◌, ◌/◌, ◌%◌, ◌<◌, ◌≤◌, List, [], ◌∷◌, ◌++◌, length, map, replicate, Option, Some, None, Ok, refl, ap, ◌∙◌, sym, subst, arith, get_or}
 use Rattle.std.specs.List.{All}
 use Rattle.std.proofs.lemmas.List.{ext_get_or}
+use Rattle.hv_limits.specs.Limits.{pages_limit}
 use Rattle.hv_word.specs.Storage.{page_count}
 use Rattle.hv_cpu.specs.Regs.{reset_regs}
 use Rattle.hv_store.specs.Access.{open_at}
 use Rattle.hv_map.specs.Chain.{pin_of}
 use Rattle.hv_map.specs.Seen.{seen}
 use Rattle.hv_map.proofs.Views.{length-seen, word_at-seen}
-use Rattle.hv_job.specs.declared.job.Directive.TheVariants as directive
+use Rattle.hv_line.specs.declared.types.Directive.TheVariants as directive
 use Rattle.hv_job.specs.declared.job.Job.{Job}
 use Rattle.hv_job.specs.declared.job.Placed.{Placed}
 use Rattle.hv_samples.specs.declared.choice.Sample.TheVariants.{Pass}
@@ -67,7 +68,7 @@ unrefused : (b : Building) (o : Option (ℕ × BuildKind)) (start : Start) → u
 unrefused b None start is = is
 unrefused b (Some end) start is = absurd (never_ok end start is)
 
-whole : (job : Job) (P depth top line : ℕ) (parts : List Placed) (start : Start) → job.harts ≡ 1 → P ≤ 16384 → 1 ≤ top → All IsTopLine parts → build_of (with_tower job P depth top line parts) ≡ Ok start → Whole P depth top parts start
+whole : (job : Job) (P depth top line : ℕ) (parts : List Placed) (start : Start) → job.harts ≡ 1 → P ≤ pages_limit → 1 ≤ top → All IsTopLine parts → build_of (with_tower job P depth top line parts) ≡ Ok start → Whole P depth top parts start
 unfolding build_of built_from
 whole job P depth top line parts start harts few some all is =
     let b : Building = nothing_built P job.harts in

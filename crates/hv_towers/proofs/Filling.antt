@@ -6,13 +6,14 @@ use Rattle.std.proofs.Math.Seq.{sets, length-sets}
 use Rattle.std.proofs.lemmas.Bool.Decides.{eqb_tells}
 use Rattle.std.proofs.lemmas.List.{map-append}
 use Rattle.std.proofs.lemmas.List.Sums.{sum_by-cons}
+use Rattle.hv_limits.specs.Limits.{pages_limit}
 use Rattle.hv_word.specs.Storage.{page_count}
 use Rattle.hv_block.proofs.Words.{sets_outside}
 use Rattle.hv_map.specs.Chain.{map_of}
 use Rattle.hv_map.specs.declared.path.Watch.{Watch}
 use Rattle.hv_job.specs.IsJob.{count_of, is_watch}
-use Rattle.hv_job.specs.declared.job.Directive.{Directive}
-use Rattle.hv_job.specs.declared.job.Directive.TheVariants as directive
+use Rattle.hv_line.specs.declared.types.Directive.{Directive}
+use Rattle.hv_line.specs.declared.types.Directive.TheVariants as directive
 use Rattle.hv_job.specs.declared.job.Placed.{Placed}
 use Rattle.hv_load.specs.declared.ends.BuildKind.{BuildKind}
 use Rattle.hv_load.specs.declared.ends.BuildKind.TheVariants as kind
@@ -53,7 +54,7 @@ pub record Did (P : ℕ) (ns : List ℕ) (b n : Building) (S : List ℕ) (asked 
 abbrev same_as : Building → Result Building BuildKind
 same_as b = Ok b
 
-module _ (P : ℕ) (ns : List ℕ) (few : P ≤ 16384) (b n : Building) (s : Stands P ns b) where
+module _ (P : ℕ) (ns : List ℕ) (few : P ≤ pages_limit) (b n : Building) (s : Stands P ns b) where
   top_map : map_of b.storage s.top.path ≡ Some (from_base (end_base 0 ns) (end_size P ns))
   top_map =
       let pages : page_count b.storage ≡ P = omega (arith, s.size) in
@@ -109,7 +110,7 @@ module _ (P : ℕ) (ns : List ℕ) (few : P ≤ 16384) (b n : Building) (s : Sta
   done line (directive.Dump name page) h is = absurd h
 
 -- all lines
-pub lines_done : (P : ℕ) (ns : List ℕ) → P ≤ 16384 → (lines : List Placed) (b n : Building) → All IsTopLine lines → Stands P ns b → built_from b lines ≡ Ok n → Did P ns b n (put_lines (end_base 0 ns) b.storage lines) (watched_lines (length ns) lines)
+pub lines_done : (P : ℕ) (ns : List ℕ) → P ≤ pages_limit → (lines : List Placed) (b n : Building) → All IsTopLine lines → Stands P ns b → built_from b lines ≡ Ok n → Did P ns b n (put_lines (end_base 0 ns) b.storage lines) (watched_lines (length ns) lines)
 unfolding built_from
 lines_done P ns few [] b n all s is =
     subst (λ (n : Building). Did P ns b n b.storage []) (same_ok b n (built_from b []) refl is)

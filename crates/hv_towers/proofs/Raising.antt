@@ -4,6 +4,7 @@ use Rattle.std.specs.List.{range_with_len}
 use Rattle.std.proofs.Math.Seq.{sets, length-sets}
 use Rattle.std.proofs.lemmas.List.{replicate_more}
 use Rattle.std.proofs.lemmas.Slice.Eq.{bytes_eq-Decides}
+use Rattle.hv_limits.specs.Limits.{pages_limit}
 use Rattle.hv_word.specs.Storage.{page_count, word_at}
 use Rattle.hv_cpu.specs.Regs.{reset_regs}
 use Rattle.hv_block.proofs.Words.{sets_at, sets_outside}
@@ -161,7 +162,7 @@ and_false : (b : Bool) → (b && false) ≡ false
 and_false true = refl
 and_false false = refl
 
-module _ (P line m : ℕ) (few : P ≤ 16384) (some : 1 ≤ m) (b n : Building) (ms : List ℕ) (rest : List Placed) (r : Raised P b ms) where
+module _ (P line m : ℕ) (few : P ≤ pages_limit) (some : 1 ≤ m) (b n : Building) (ms : List ℕ) (rest : List Placed) (r : Raised P b ms) where
   first_map : map_of b.storage r.last.path ≡ Some (from_base (end_base 0 ms) (end_size P ms))
   first_map = ap (map_of b.storage) r.path ∙ map_of_is b.storage P ms (pages_are b.storage P r.size) few r.storeys
 

@@ -1,6 +1,7 @@
 -- A whole tower, with the name of its top.
 use Rattle.std.proofs.Common.{◌≡◌, ℕ, zero, suc, ◌+◌, ◌*◌, ◌≤◌, ◌||◌, List, [], ◌∷◌, ◌++◌, length, replicate, codes, Result, Ok, refl, ap, ◌∙◌, sym, subst, arith, get_or}
 use Rattle.std.specs.Prelude.{is_some}
+use Rattle.hv_limits.specs.Limits.{pages_limit}
 use Rattle.hv_cpu.specs.Regs.{reset_regs}
 use Rattle.hv_store.specs.Zeros.{zeros}
 use Rattle.hv_store.proofs.Identity.{length-zeros}
@@ -34,7 +35,7 @@ record Risen (P top levels : ℕ) (ms : List ℕ) (n : Building) : Type 0 where
   longer : length ns ≡ length ms + levels
   size : end_size P ns ≡ last_size (end_size P ms) top levels
 
-rise : (P line top : ℕ) → P ≤ 16384 → 1 ≤ top → (levels k : ℕ) (b n : Building) (ms : List ℕ) → k ≡ length ms → Raised P b ms → parts_of b (levels_from line top Pass k levels) ≡ Ok n → Risen P top levels ms n
+rise : (P line top : ℕ) → P ≤ pages_limit → 1 ≤ top → (levels k : ℕ) (b n : Building) (ms : List ℕ) → k ≡ length ms → Raised P b ms → parts_of b (levels_from line top Pass k levels) ≡ Ok n → Risen P top levels ms n
 unfolding last_size
 rise P line top few some zero k b n ms e r is = record {
   ns = ms;
@@ -95,7 +96,7 @@ pub record Empty (P depth top : ℕ) (b : Building) : Type 0 where
   pub empty : (q : ℕ) → 1024 * end_base 0 ns ≤ q → get_or b.storage q 0 ≡ 0
   pub watches : b.watches ≡ []
 
-pub tower_stands : (P line depth top : ℕ) (n : Building) → P ≤ 16384 → 1 ≤ top → towered_of (nothing_built P 1) line depth top Pass ≡ Ok n → Empty P depth top n
+pub tower_stands : (P line depth top : ℕ) (n : Building) → P ≤ pages_limit → 1 ≤ top → towered_of (nothing_built P 1) line depth top Pass ≡ Ok n → Empty P depth top n
 unfolding end_size
 tower_stands P line depth top n few some is =
     let b : Building = nothing_built P 1 in

@@ -3,6 +3,7 @@ use Rattle.std.proofs.Common.{◌≡◌, ℕ, zero, suc, ◌+◌, ◌*◌, ◌/�
 use Rattle.std.specs.List.{range_with_len, flat_map}
 use Rattle.std.specs.Option.{option_map}
 use Rattle.std.proofs.lemmas.Bool.{or_cases, and_parts, eqb-true, eq-eqb, true≢false}
+use Rattle.hv_limits.specs.Limits.{pages_limit}
 use Rattle.hv_word.specs.Storage.{page_count}
 use Rattle.hv_store.specs.declared.access.Slot.{Slot}
 use Rattle.hv_store.specs.Access.{identity, open_at}
@@ -191,7 +192,7 @@ opens_are : (base n : ℕ) → open_pages (from_base base n) ≡ range_with_len 
 unfolding from_base
 opens_are base n = let none : base + 0 ≡ base = omega arith in opens_base base 0 n ∙ ap (λ (x : ℕ). range_with_len x n) none
 
-tables_are : (S : List ℕ) (j base n : ℕ) (ms : List ℕ) → n ≤ 16384 → Storeys S base n ms → tables_along S (from_base base n) j (items_of base ms) ≡ tables_list base ms
+tables_are : (S : List ℕ) (j base n : ℕ) (ms : List ℕ) → n ≤ pages_limit → Storeys S base n ms → tables_along S (from_base base n) j (items_of base ms) ≡ tables_list base ms
 unfolding tables_along tables_list items_of
 tables_are S j base n [] few all = refl
 tables_are S j base n (m ∷ ms) few all =
@@ -215,7 +216,7 @@ tables_are S j base n (m ∷ ms) few all =
         flat_range (λ k. table_open (from_base base n) (table_of S (reading (from_base base n)) j 2 0 (1024 * k))) (base + 2) 0 (table_pages m) (λ k low high. one k (omega (arith, high)))
         ∙ ap (λ (x : ℕ). range_with_len x (table_pages m)) none
 
-pub apart_are : (S : List ℕ) (P : ℕ) (ms : List ℕ) → page_count S ≡ P → P ≤ 16384 → Storeys S 0 P ms → is_apart S (items_of 0 ms) ≡ true
+pub apart_are : (S : List ℕ) (P : ℕ) (ms : List ℕ) → page_count S ≡ P → P ≤ pages_limit → Storeys S 0 P ms → is_apart S (items_of 0 ms) ≡ true
 apart_are S P ms is few all =
     ap are_distinct stands
     ∙ distinct_append blocks (tables ++ pages) (blocks_distinct 0 ms)

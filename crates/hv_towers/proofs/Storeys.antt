@@ -3,6 +3,7 @@ use Rattle.std.proofs.Common.{◌≡◌, ℕ, ◌+◌, ◌*◌, ◌/◌, ◌%◌
 use Rattle.std.specs.Option.{option_map, option_and_then}
 use Rattle.std.specs.Prelude.{◌==◌, ◌&&◌, ◌||◌, nat_lt, nat_le}
 use Rattle.std.proofs.lemmas.Bool.{lt-ltb, le-leb, ne_eqb}
+use Rattle.hv_limits.specs.Limits.{pages_limit}
 use Rattle.hv_word.specs.Words.{field_of}
 use Rattle.hv_word.specs.Storage.{page_count, word_at}
 use Rattle.hv_cpu.specs.Regs.{Regs, reset_regs}
@@ -60,7 +61,7 @@ granted_open j i e g odd = λ k. record {
   fetch = Open g;
 }
 
-module _ (S : List ℕ) (j base n m : ℕ) (few : n ≤ 16384) (storey : Storey S base n m) where
+module _ (S : List ℕ) (j base n m : ℕ) (few : n ≤ pages_limit) (storey : Storey S base n m) where
   inside : 2 + table_pages m + m ≤ n
   inside = storey.size
 
@@ -203,7 +204,7 @@ module _ (S : List ℕ) (j base n m : ℕ) (few : n ≤ 16384) (storey : Storey 
   }
 
 -- the machines of a path of ones, and the last one's map
-pub machines_are : (S : List ℕ) (j base n : ℕ) (ms : List ℕ) → n ≤ 16384 → Storeys S base n ms → machines S (from_base base n) j (replicate (length ms) 1) ≡ Some (items_of base ms)
+pub machines_are : (S : List ℕ) (j base n : ℕ) (ms : List ℕ) → n ≤ pages_limit → Storeys S base n ms → machines S (from_base base n) j (replicate (length ms) 1) ≡ Some (items_of base ms)
 unfolding machines items_of
 machines_are S j base n [] few all = refl
 machines_are S j base n (m ∷ ms) few all =
@@ -212,7 +213,7 @@ machines_are S j base n (m ∷ ms) few all =
     ∙ ap (λ (F : List Slot). option_cons (item_of base m) (machines S F (j + 1) (replicate (length ms) 1))) (slots S j base n m few all.0)
     ∙ ap (option_cons (item_of base m)) (machines_are S (j + 1) (child_base base m) m ms (omega (arith, h, few)) all.1)
 
-pub along_is : (S : List ℕ) (j base n : ℕ) (ms : List ℕ) → n ≤ 16384 → Storeys S base n ms → along S (from_base base n) j (items_of base ms) ≡ from_base (end_base base ms) (end_size n ms)
+pub along_is : (S : List ℕ) (j base n : ℕ) (ms : List ℕ) → n ≤ pages_limit → Storeys S base n ms → along S (from_base base n) j (items_of base ms) ≡ from_base (end_base base ms) (end_size n ms)
 unfolding along items_of end_base end_size
 along_is S j base n [] few all = refl
 along_is S j base n (m ∷ ms) few all =
@@ -220,7 +221,7 @@ along_is S j base n (m ∷ ms) few all =
     ap (λ (F : List Slot). along S F (j + 1) (items_of (child_base base m) ms)) (slots S j base n m few all.0)
     ∙ along_is S (j + 1) (child_base base m) m ms (omega (arith, h, few)) all.1
 
-pub laid_from : (S : List ℕ) (j base n : ℕ) (ms : List ℕ) → n ≤ 16384 → Storeys S base n ms → LaidFrom S j base n (items_of base ms)
+pub laid_from : (S : List ℕ) (j base n : ℕ) (ms : List ℕ) → n ≤ pages_limit → Storeys S base n ms → LaidFrom S j base n (items_of base ms)
 unfolding items_of
 laid_from S j base n [] few all = tt
 laid_from S j base n (m ∷ ms) few all =
@@ -228,7 +229,7 @@ laid_from S j base n (m ∷ ms) few all =
     (laid_at S j base n m few all.0, laid_from S (j + 1) (child_base base m) m ms (omega (arith, h, few)) all.1)
 
 -- the same from the bare machine on
-module _ (S : List ℕ) (P : ℕ) (ms : List ℕ) (is : page_count S ≡ P) (few : P ≤ 16384) (all : Storeys S 0 P ms) where
+module _ (S : List ℕ) (P : ℕ) (ms : List ℕ) (is : page_count S ≡ P) (few : P ≤ pages_limit) (all : Storeys S 0 P ms) where
   bare : identity (page_count S) ≡ from_base 0 P
   bare = ap identity is ∙ base_zero P
 

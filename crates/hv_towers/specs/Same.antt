@@ -1,5 +1,6 @@
 -- The program at the top of a tower runs as the same program does on a bare machine.
 use Rattle.std.specs.Prelude.{◌≡◌, ℕ, ◌≤◌, List, All, Ok}
+use Rattle.hv_limits.specs.Limits.{depth_limit, pages_limit}
 use Rattle.hv_job.specs.declared.job.Job.{Job}
 use Rattle.hv_job.specs.declared.job.Placed.{Placed}
 use Rattle.hv_load.specs.Build.{build_of}
@@ -19,9 +20,9 @@ abbrev pub TowerLaw : Type 0
 TowerLaw =
     (job : Job) (pages depth top line m : ℕ) (parts : List Placed) (start alone : Start)
     → job.harts ≡ 1
-    → pages ≤ 16384
+    → pages ≤ pages_limit
     → 1 ≤ depth
-    → depth ≤ 8
+    → depth ≤ depth_limit
     → 1 ≤ top
     → All IsTopLine parts
     → build_of (with_tower job pages depth top line parts) ≡ Ok start

@@ -1,9 +1,10 @@
 -- What building a tower of monitors with a program at its top comes to.
 use Rattle.std.specs.Prelude.{◌≡◌, ℕ, ◌≤◌, List, [], ◌∷◌, replicate, All, Ok, codes}
+use Rattle.hv_limits.specs.Limits.{depth_limit, pages_limit}
 use Rattle.hv_cpu.specs.Regs.{reset_regs}
 use Rattle.hv_job.specs.IsJob.{count_of, is_watch}
-use Rattle.hv_job.specs.declared.job.Directive.{Directive}
-use Rattle.hv_job.specs.declared.job.Directive.TheVariants as directive
+use Rattle.hv_line.specs.declared.types.Directive.{Directive}
+use Rattle.hv_line.specs.declared.types.Directive.TheVariants as directive
 use Rattle.hv_job.specs.declared.job.Job.{Job}
 use Rattle.hv_job.specs.declared.job.Placed.{Placed}
 use Rattle.hv_load.specs.Build.{build_of}
@@ -42,9 +43,9 @@ abbrev pub TowerBuildLaw : Type 0
 TowerBuildLaw =
     (job : Job) (pages depth top line : ℕ) (parts : List Placed) (start alone : Start)
     → job.harts ≡ 1
-    → pages ≤ 16384
+    → pages ≤ pages_limit
     → 1 ≤ depth
-    → depth ≤ 8
+    → depth ≤ depth_limit
     → 1 ≤ top
     → All IsTopLine parts
     → build_of (with_tower job pages depth top line parts) ≡ Ok start

@@ -74,7 +74,10 @@ fn a_line_is_raised_after_eleven_steps(rt: HostRuntime) -> Result<(), Fail> {
         bits: 0x80,
     };
     bare_run(&mut store, &mut cpu, &[timer], 14);
-    assert_eq!(rt; (cpu.pc, cpu.x(1), cpu.x(2), cpu.x(6)), (0x28, 2, 0x63, 0x80));
+    assert_eq!(rt;
+        (cpu.pc, cpu.x(1), cpu.x(2), cpu.x(6)),
+        (0x28, 2, 0x63, 0x80)
+    );
     assert_eq!(rt; (cpu.mstatus, cpu.mtvec, cpu.mepc), (0x1880, 0x24, 0x1C));
     assert_eq!(rt; (cpu.mcause, cpu.mie, cpu.mip), (0x8000_0007, 0x80, 0x80));
     // a change at the last count is made too

@@ -64,7 +64,7 @@ WholeRunLaw =
     → t ≡ tally_of h path items (foot start.storage items) start moves no_tally
     → t.touched ≡ false
     → Alike h items (map_along start.storage items) (last_of start moves)
-      (bare_of (seen start.storage (map_along start.storage items)) (own h items start) t.changes t.count)
+    (bare_of (seen start.storage (map_along start.storage items)) (own h items start) t.changes t.count)
 
 -- The same where the bare machine itself is watched, as hart 0, and no step of another hart has touched: the whole
 -- storage and the hart are then those of a bare machine with one hart, which began with the same storage.
@@ -77,7 +77,7 @@ RootRunLaw =
     → t ≡ tally_of 0 [] [] (foot start.storage []) start moves no_tally
     → t.touched ≡ false
     → bare_of start.storage (regs_of 0 start) t.changes t.count
-      ≡ alone (last_of start moves).storage (regs_of 0 (last_of start moves))
+    ≡ alone (last_of start moves).storage (regs_of 0 (last_of start moves))
 
 -- The registers of a machine inside another are those in its block, the last one.
 abbrev pub BlockLaw : Type 0

@@ -14,19 +14,19 @@ returns-then-is_debug c =
     (body_ended c.loop-rest.draft c.loop-rest.number c.loop-rest.rest.now c.first_line.result.0.now c.first_line.result.1.now _
     c.first_line.ensures.cut c.loop-rest.invariant.told (search rules) c.in_ok-commands.commands c.in_ok-commands.ensures)
 
-pub returns-in_err-spot : goal.returns-in_err-spot
-returns-in_err-spot c =
-    passes_on c.from_residual-in_err-spot.result c.in_err-spot.field-0.0 _ c.from_residual-in_err-spot.ensures.1
+pub returns-in_err-next : goal.returns-in_err-next
+returns-in_err-next c =
+    passes_on c.from_residual-in_err-next.result c.in_err-next.field-0.0 _ c.from_residual-in_err-next.ensures.1
     (body_refused c.loop-rest.draft c.loop-rest.number c.loop-rest.rest.now c.first_line.result.0.now c.first_line.result.1.now _
-    c.first_line.ensures.cut c.loop-rest.invariant.told (search rules) c.in_err-spot.field-0.0 c.in_err-spot.ensures.draft)
+    c.first_line.ensures.cut c.loop-rest.invariant.told (search rules) c.in_err-next.field-0.0 c.in_err-next.ensures.draft)
 
 pub loop-rest-preserved : goal.loop-rest-preserved
 loop-rest-preserved c = record {
-  size = omega (arith, c.loop-rest.invariant.size, c.in_ok-spot.ensures.size, c.first_line.ensures.behind);
+  size = omega (arith, c.loop-rest.invariant.size, c.in_ok-next.ensures.size, c.first_line.ensures.behind);
   told =
       body_more c.loop-rest.draft c.loop-rest.number c.loop-rest.rest.now c.first_line.result.0.now c.first_line.result.1.now _
-      c.first_line.ensures.cut c.loop-rest.invariant.told (search rules) c.read_line.new.draft c.in_ok-spot.spot.number c.in_ok-spot.spot.text.now
-      c.in_ok-spot.ensures.draft c.in_ok-spot.ensures.rest;
+      c.first_line.ensures.cut c.loop-rest.invariant.told (search rules) c.read_line.new.draft c.in_ok-next.next.number c.in_ok-next.next.text.now
+      c.in_ok-next.ensures.draft c.in_ok-next.ensures.rest;
 }
 
 pub returns : goal.returns

@@ -2,20 +2,20 @@ use Rattle.std.proofs.Common.{arith, rules}
 use Rattle.hv_job.proofs.Following.{header_end, header_byte, header_skip, header_other, header_found}
 use Rattle.hv_job.proofs.body.read_header.Goals as goal
 
-pub returns-then-not-has_allowed_bytes-clause-spot : goal.returns-then-not-has_allowed_bytes-clause-spot
-returns-then-not-has_allowed_bytes-clause-spot c =
+pub returns-then-not-has_allowed_bytes-clause-rest : goal.returns-then-not-has_allowed_bytes-clause-rest
+returns-then-not-has_allowed_bytes-clause-rest c =
     rw c.refused.ensures
     (header_byte c.loop-rest.number c.loop-rest.rest.now c.first_line.result.0.now c.first_line.result.1.now _ c.first_line.ensures.cut
     c.loop-rest.invariant.told (search rules))
 
-pub returns-then-not-is_header-clause-spot : goal.returns-then-not-is_header-clause-spot
-returns-then-not-is_header-clause-spot c =
+pub returns-then-not-is_header-clause-rest : goal.returns-then-not-is_header-clause-rest
+returns-then-not-is_header-clause-rest c =
     rw c.refused-then-not-is_header.ensures
     (header_other c.loop-rest.number c.loop-rest.rest.now c.first_line.result.0.now c.first_line.result.1.now _ c.first_line.ensures.cut
     c.loop-rest.invariant.told (search rules) (search rules) (search rules))
 
-pub returns-then-has_words-clause-spot : goal.returns-then-has_words-clause-spot
-returns-then-has_words-clause-spot c =
+pub returns-then-has_words-clause-rest : goal.returns-then-has_words-clause-rest
+returns-then-has_words-clause-rest c =
     header_found c.loop-rest.number c.loop-rest.rest.now c.first_line.result.0.now c.first_line.result.1.now _ c.first_line.ensures.cut
     c.loop-rest.invariant.told (search rules) (search rules) (search rules)
 
@@ -27,6 +27,6 @@ loop-rest-preserved c = record {
       c.loop-rest.invariant.told (search rules) (search rules);
 }
 
-pub returns-clause-spot : goal.returns-clause-spot
-returns-clause-spot c =
+pub returns-clause-rest : goal.returns-clause-rest
+returns-clause-rest c =
     rw c.refused-2.ensures (header_end c.loop-rest.number c.loop-rest.rest.now _ (search rules) c.loop-rest.invariant.told)

@@ -2,19 +2,19 @@ use Rattle.std.proofs.Common.{arith, rules}
 use Rattle.hv_job.proofs.Following.{storage_end, storage_byte, storage_skip, storage_refused, storage_found}
 use Rattle.hv_job.proofs.body.read_storage.Goals as goal
 
-pub returns-then-not-has_allowed_bytes-clause-spot : goal.returns-then-not-has_allowed_bytes-clause-spot
-returns-then-not-has_allowed_bytes-clause-spot c =
+pub returns-then-not-has_allowed_bytes-clause-rest : goal.returns-then-not-has_allowed_bytes-clause-rest
+returns-then-not-has_allowed_bytes-clause-rest c =
     rw c.refused.ensures
     (storage_byte c.loop-rest.number c.loop-rest.rest.now c.first_line.result.0.now c.first_line.result.1.now _ c.first_line.ensures.cut
     c.loop-rest.invariant.told (search rules))
 
-pub returns-in-Ok-clause-spot : goal.returns-in-Ok-clause-spot
-returns-in-Ok-clause-spot c =
+pub returns-in-Ok-clause-rest : goal.returns-in-Ok-clause-rest
+returns-in-Ok-clause-rest c =
     storage_found c.loop-rest.number c.loop-rest.rest.now c.first_line.result.0.now c.first_line.result.1.now _ c.first_line.ensures.cut
     c.in-Ok.pages c.loop-rest.invariant.told (search rules) (search rules) (search rules)
 
-pub returns-in-Err-clause-spot : goal.returns-in-Err-clause-spot
-returns-in-Err-clause-spot c =
+pub returns-in-Err-clause-rest : goal.returns-in-Err-clause-rest
+returns-in-Err-clause-rest c =
     rw c.refused-in-Err.ensures
     (storage_refused c.loop-rest.number c.loop-rest.rest.now c.first_line.result.0.now c.first_line.result.1.now _ c.first_line.ensures.cut
     c.in-Err.kind c.loop-rest.invariant.told (search rules) (search rules) (search rules))
@@ -27,6 +27,6 @@ loop-rest-preserved c = record {
       c.loop-rest.invariant.told (search rules) (search rules);
 }
 
-pub returns-clause-spot : goal.returns-clause-spot
-returns-clause-spot c =
+pub returns-clause-rest : goal.returns-clause-rest
+returns-clause-rest c =
     rw c.refused-2.ensures (storage_end c.loop-rest.number c.loop-rest.rest.now _ (search rules) c.loop-rest.invariant.told)

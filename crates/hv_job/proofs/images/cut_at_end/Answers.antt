@@ -1,5 +1,5 @@
 use Rattle.std.proofs.Common.{◌∙◌, arith, refl, rules}
-use Rattle.hv_job.proofs.Ending.{cut_start, front_start, cut_next, front_next, goes_more, goes_none, cut_ends}
+use Rattle.hv_job.proofs.Ending.{cut_start, front_start, cut_next, front_next, goes_more, goes_none}
 use Rattle.hv_job.proofs.images.cut_at_end.Goals as goal
 
 pub loop-rest-init : goal.loop-rest-init

@@ -1,6 +1,6 @@
 use Rattle.std.proofs.Common.{◌≡◌, ◌++◌}
-use Rattle.hv_report.specs.Dumps.{rows_text}
+use Rattle.hv_report.specs.Dumps.{first_lines}
 use Rattle.hv_report.proofs.dumps.put_page.Given as goal
 
-abbrev pub invariant-loop-row : goal.invariant-loop-row
-invariant-loop-row l = l.out.items ≡ l.fn.out.items ++ rows_text l.store l.host l.row
+abbrev pub invariant-loop-line : goal.invariant-loop-line
+invariant-loop-line l = l.out.items ≡ l.fn.out.items ++ first_lines l.store l.host l.line

@@ -1,7 +1,7 @@
 use Rattle.std.proofs.Common.{◌≡◌, List, sym, ap, ◌∙◌, subst}
 use Rattle.std.specs.List.{All}
 use Rattle.hv_nest.specs.State.{State}
-use Rattle.hv_run.specs.Record.{Told, WatchTold}
+use Rattle.hv_run.specs.Record.{PlayRecord, WatchRecord}
 use Rattle.hv_top.specs.Check.{IsRow, built_state, start_state}
 use Rattle.hv_top.specs.Run.{state_of}
 use Rattle.hv_top.proofs.check.compared.Goals as goal
@@ -11,6 +11,6 @@ unfolding start_state
 put_watches-requires-clause-rows c =
     let end = c.in_ok-record in
     let begun : start_state c.args.job.now ≡ state_of c.args.start = ap built_state c.requires.built in
-    let watches : c.as_slice.result.now ≡ end.field-0.record.watches = c.as_slice.ensures ∙ ap (λ (t : Told). t.watches) c.record.view_is in
+    let watches : c.as_slice.result.now ≡ end.field-0.record.watches = c.as_slice.ensures ∙ ap (λ (t : PlayRecord). t.watches) c.record.view_is in
     subst (λ (st : State). All (IsRow st) c.as_slice.result.now) (sym begun)
-    (subst (λ (ws : List WatchTold). All (IsRow (state_of c.args.start)) ws) (sym watches) end.ensures.rows)
+    (subst (λ (ws : List WatchRecord). All (IsRow (state_of c.args.start)) ws) (sym watches) end.ensures.rows)

@@ -8,7 +8,7 @@ use Rattle.hv_map.specs.declared.path.Watch.{Watch}
 use Rattle.hv_nest.specs.State.{State}
 use Rattle.hv_nest.specs.Move.{last_of}
 use Rattle.hv_word.specs.Storage.{page_count}
-use Rattle.hv_run.specs.Record.{schedule, Told}
+use Rattle.hv_run.specs.Record.{schedule, PlayRecord}
 use Rattle.hv_run.specs.Stands.{CanWatch, watches_of}
 use Rattle.hv_report.specs.Report.{AreThere}
 use Rattle.hv_run.specs.Run.{steps_in}
@@ -56,7 +56,7 @@ returns-clause-there c =
     let h = c.requires.ready in
     let can = can_watch c.args.start c.new-plain.result c.as_slice.result.now c.new-plain.ensures c.as_slice.ensures h.watches in
     subst (λ (st : State). AreThere st c.in_ok-record.record.watches) (sym c.in_ok-record.ensures.state)
-    (subst (λ (t : Told). AreThere (last_of c.new-plain.result (schedule c.events.result.now)) t.watches) (sym c.in_ok-record.ensures.record)
+    (subst (λ (t : PlayRecord). AreThere (last_of c.new-plain.result (schedule c.events.result.now)) t.watches) (sym c.in_ok-record.ensures.record)
     (there c.new-plain.result (schedule c.events.result.now) (watches_of c.as_slice.result.now) can))
 
 pub returns-clause-rows : goal.returns-clause-rows
@@ -70,13 +70,13 @@ returns-clause-rows c =
     subst (λ (n : ℕ). n ≤ 10 ^ 9) (sym steps) c.events.ensures.schedule.steps
     in
     subst (λ (st : State). All (IsRow st) c.in_ok-record.record.watches) c.new-plain.ensures
-    (subst (λ (t : Told). All (IsRow c.new-plain.result) t.watches) (sym c.in_ok-record.ensures.record)
+    (subst (λ (t : PlayRecord). All (IsRow c.new-plain.result) t.watches) (sym c.in_ok-record.ensures.record)
     (rows c.new-plain.result (schedule c.events.result.now) few (watches_of c.as_slice.result.now) can))
 
 pub returns-clause-promised : goal.returns-clause-promised
 returns-clause-promised c =
-    promised c.args.start (schedule c.args.job.now.recording) c.new-plain.result (schedule c.events.result.now) (watches_of c.as_slice.result.now) c.in_ok-record.record
+    promised c.args.start (schedule c.args.job.now.recording) c.new-plain.result (schedule c.events.result.now) (watches_of c.as_slice.result.now)
     c.new-plain.ensures
     (ap (λ (events : List Event). schedule events) c.events.ensures.events)
     (ap (λ (ws : List Watch). watches_of ws) c.as_slice.ensures)
-    c.in_ok-record.ensures.record c.in_ok-record.ensures.guests c.in_ok-record.ensures.routed
+    c.in_ok-record.ensures.guests c.in_ok-record.ensures.routed

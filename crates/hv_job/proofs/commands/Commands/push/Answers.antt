@@ -1,4 +1,4 @@
-use Rattle.std.proofs.Common.{◌≡◌, ◌+◌, ◌≤◌, false, ap, ◌∙◌, arith}
+use Rattle.std.proofs.Common.{◌≡◌, false, ap, ◌∙◌, arith}
 use Rattle.hv_job.specs.Commands.{is_over}
 use Rattle.hv_job.specs.IsJob.{breaks_in}
 use Rattle.hv_job.proofs.Commanding.{breaks_more, room_breaks}

@@ -1,5 +1,5 @@
-use Rattle.std.proofs.Common.{◌≡◌, ◌+◌, ◌*◌, ◌≤◌, false, ap, ◌∙◌, sym, arith}
-use Rattle.hv_job.specs.IsJob.{bytes_of, count_of, image_bytes, is_dump, is_machine, is_watch}
+use Rattle.std.proofs.Common.{◌≡◌, false, ap, ◌∙◌, arith}
+use Rattle.hv_job.specs.IsJob.{count_of, image_bytes, is_dump, is_machine, is_watch}
 use Rattle.hv_job.specs.JobOf.{is_many}
 use Rattle.hv_job.proofs.Counting.{counted, sized, room_machines, room_watches, room_dumps, room_bytes}
 use Rattle.hv_job.proofs.draft.Directives.push.Goals as goal

@@ -1,7 +1,0 @@
-use Rattle.std.proofs.Common.{◌∙◌}
-use Rattle.hv_job.proofs.Reading.{asked_read}
-use Rattle.hv_job.proofs.directives.read_asked.Goals as goal
-
-pub returns-in-len1-up : goal.returns-in-len1-up
-returns-in-len1-up c =
-    c.directive.ensures ∙ asked_read c.as_slice.result.now _ _ c.as_slice.ensures c.in-len1-up.len_at_least c.read_words.ensures

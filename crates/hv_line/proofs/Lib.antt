@@ -1,0 +1,7 @@
+pub mod Answering
+pub mod Cutting
+pub mod Numbering
+pub mod Ranging
+pub mod Reading
+pub mod Shapes
+pub mod Spacing

@@ -1,0 +1,35 @@
+use Rattle.std.proofs.Common.{sym}
+use Rattle.std.proofs.lemmas.Result.{err_from_is_err_and}
+use Rattle.hv_line.specs.Statements.{map_directive_of}
+use Rattle.hv_line.proofs.Shapes.{texts_three, texts_four}
+use Rattle.hv_line.proofs.directives.map_directive.Goals as goal
+
+pub returns-in_err-name-in-len3 : goal.returns-in_err-name-in-len3
+unfolding map_directive_of
+returns-in_err-name-in-len3 c =
+    let p = err_from_is_err_and c.from_residual.result c.from_residual.ensures.1 in
+    rw (p.1, p.2, texts_three c.args.behind.now c.in-len3.len_at_least c.in-len3.len_below) (simp (sym c.in_err-name-in-len3.ensures))
+
+pub returns-in_err-page-in-len3 : goal.returns-in_err-page-in-len3
+unfolding map_directive_of
+returns-in_err-page-in-len3 c =
+    let p = err_from_is_err_and c.from_residual-in_err-page-in-len3.result c.from_residual-in_err-page-in-len3.ensures.1 in
+    rw (p.1, p.2, texts_three c.args.behind.now c.in-len3.len_at_least c.in-len3.len_below) (simp (sym c.in_ok-name-in-len3.ensures, sym c.in_err-page-in-len3.ensures.value))
+
+pub returns-in_err-name-in-len4 : goal.returns-in_err-name-in-len4
+unfolding map_directive_of
+returns-in_err-name-in-len4 c =
+    let p = err_from_is_err_and c.from_residual-in_err-name-in-len4.result c.from_residual-in_err-name-in-len4.ensures.1 in
+    rw (p.1, p.2, texts_four c.args.behind.now c.in-len4.len_at_least c.in-len4.len_below) (simp (sym c.in_err-name-in-len4.ensures))
+
+pub returns-in_err-page-in-len4 : goal.returns-in_err-page-in-len4
+unfolding map_directive_of
+returns-in_err-page-in-len4 c =
+    let p = err_from_is_err_and c.from_residual-in_err-page-in-len4.result c.from_residual-in_err-page-in-len4.ensures.1 in
+    rw (p.1, p.2, texts_four c.args.behind.now c.in-len4.len_at_least c.in-len4.len_below) (simp (sym c.in_ok-name-in-len4.ensures, sym c.in_err-page-in-len4.ensures.value))
+
+pub returns-in_err-bits-in-len4 : goal.returns-in_err-bits-in-len4
+unfolding map_directive_of
+returns-in_err-bits-in-len4 c =
+    let p = err_from_is_err_and c.from_residual-in_err-bits-in-len4.result c.from_residual-in_err-bits-in-len4.ensures.1 in
+    rw (p.1, p.2, texts_four c.args.behind.now c.in-len4.len_at_least c.in-len4.len_below) (simp (sym c.in_ok-name-in-len4.ensures, sym c.in_ok-page-in-len4.ensures.value, sym c.in_err-bits-in-len4.ensures.value))

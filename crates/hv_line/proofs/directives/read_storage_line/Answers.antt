@@ -1,0 +1,7 @@
+use Rattle.std.proofs.Common.{◌∙◌}
+use Rattle.hv_line.proofs.Reading.{storage_read}
+use Rattle.hv_line.proofs.directives.read_storage_line.Goals as goal
+
+pub returns-in-len1-up : goal.returns-in-len1-up
+returns-in-len1-up c =
+    c.storage.ensures ∙ storage_read c.as_slice.result.now _ _ c.as_slice.ensures c.in-len1-up.len_at_least c.read_words.ensures

@@ -1,0 +1,9 @@
+pub mod Answers
+pub mod Commands
+pub mod JobLimits
+pub mod Kinds
+pub mod Lines
+pub mod Names
+pub mod Ranges
+pub mod Statements
+pub mod Texts

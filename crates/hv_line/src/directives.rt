@@ -1,0 +1,441 @@
+//! The directives of a job, each as its words.
+
+ghost use Rattle.std.specs.Prelude.{◌≡◌};
+ghost use Rattle.hv_line.specs.Answers.{GivesLine};
+ghost use Rattle.hv_line.specs.Lines.{words_of};
+ghost use Rattle.hv_line.specs.Statements.{dump_directive_of, hart_directive_of, harts_directive_of, image_directive_of, lines_directive_of, machine_directive_of, map_directive_of, sample_directive_of, start_directive_of, statement_of, statement_with, storage_line_of, storage_pages as storage_pages_of, storage_with, tower_directive_of, turn_directive_of, watch_directive_of, word_directive_of};
+ghost use Rattle.hv_line.specs.Texts.{texts};
+
+use crate::kinds::{JobKind, JobLineEnd};
+use crate::limits::{JOB_DEPTH, JOB_HARTS, JOB_VALUES};
+use crate::lines::read_words;
+use crate::types::{Directive, Statement};
+use crate::words::{self, is};
+use hv_irq::Event;
+use hv_limits::STEPS;
+use hv_samples::Sample;
+use std::alloc::Global;
+
+/// What a line among the directives says. A line `storage` isn't one there.
+#[tactic(auto, unfolding(crate::specs::Statements::statement_of))]
+pub fn read_statement(alloc: Global, line: &[u8]) -> Result<Statement, JobLineEnd>
+    ensures { GivesLine result (statement_of (words_of line.now)) }
+{
+    match read_words(line).as_slice() {
+        [first, behind @ ..] => statement(alloc, first, behind),
+        [] => Err(JobLineEnd::Fault(JobKind::Directive)),
+    }
+}
+
+/// The pages of the storage, which the second line of a job says.
+#[tactic(auto, unfolding(crate::specs::Statements::storage_line_of))]
+pub fn read_storage_line(line: &[u8]) -> Result<u32, JobKind>
+    ensures { result ≡ storage_line_of (words_of line.now) }
+{
+    match read_words(line).as_slice() {
+        [first, behind @ ..] => storage(first, behind),
+        [] => Err(JobKind::Storage),
+    }
+}
+
+#[tactic(auto, unfolding(crate::specs::Statements::storage_with))]
+fn storage(first: &[u8], behind: &[&[u8]]) -> Result<u32, JobKind>
+    ensures { result ≡ storage_with first.now (texts behind.now) }
+{
+    if is(first, b"storage") {
+        storage_pages(behind)
+    } else {
+        Err(JobKind::Storage)
+    }
+}
+
+#[tactic(auto, unfolding(crate::specs::Statements::storage_pages))]
+fn storage_pages(behind: &[&[u8]]) -> Result<u32, JobKind>
+    ensures { result ≡ storage_pages_of (texts behind.now) }
+{
+    let [p] = behind else {
+        return Err(JobKind::Words);
+    };
+    words::pages(p)
+}
+
+// What the line with this first word says.
+#[tactic(auto, unfolding(crate::specs::Statements::statement_with))]
+fn statement(alloc: Global, first: &[u8], behind: &[&[u8]]) -> Result<Statement, JobLineEnd>
+    ensures { GivesLine result (statement_with first.now (texts behind.now)) }
+{
+    match first {
+        _ if is(first, b"harts") => at_once(harts_directive(behind)),
+        _ if is(first, b"hart") => at_once(hart_directive(behind)),
+        _ if is(first, b"machine") => at_once(machine_directive(behind)),
+        _ if is(first, b"map") => at_once(map_directive(behind)),
+        _ if is(first, b"start") => at_once(start_directive(behind)),
+        _ if is(first, b"image") => at_once(image_directive(behind)),
+        _ if is(first, b"sample") => at_once(sample_directive(behind)),
+        _ if is(first, b"word") => word_directive(alloc, behind),
+        _ if is(first, b"tower") => at_once(tower_directive(behind)),
+        _ if is(first, b"turn") => at_once(turn_directive(behind)),
+        _ if is(first, b"lines") => at_once(lines_directive(behind)),
+        _ if is(first, b"watch") => at_once(watch_directive(behind)),
+        _ if is(first, b"dump") => at_once(dump_directive(behind)),
+        _ => Err(JobLineEnd::Fault(JobKind::Directive)),
+    }
+}
+
+// What a line says that takes no memory.
+fn at_once(read: Result<Statement, JobKind>) -> Result<Statement, JobLineEnd>
+    ensures { GivesLine result read }
+{
+    match read {
+        Ok(statement) => Ok(statement),
+        Err(kind) => Err(JobLineEnd::Fault(kind)),
+    }
+}
+
+#[tactic(auto, unfolding(crate::specs::Statements::harts_directive_of))]
+fn harts_directive(behind: &[&[u8]]) -> Result<Statement, JobKind>
+    ensures { result ≡ harts_directive_of (texts behind.now) }
+{
+    let [n] = behind else {
+        return Err(JobKind::Words);
+    };
+    let harts = words::between(1, JOB_HARTS, n)?;
+    Ok(Statement::Harts { harts })
+}
+
+#[tactic(auto, unfolding(crate::specs::Statements::hart_directive_of))]
+fn hart_directive(behind: &[&[u8]]) -> Result<Statement, JobKind>
+    ensures { result ≡ hart_directive_of (texts behind.now) }
+{
+    let [h, a] = behind else {
+        return Err(JobKind::Words);
+    };
+    let hart = words::hart(h)?;
+    let pc = words::address(a)?;
+    Ok(Statement::Directive(Directive::Hart { hart, pc }))
+}
+
+#[tactic(auto, unfolding(crate::specs::Statements::machine_directive_of))]
+fn machine_directive(behind: &[&[u8]]) -> Result<Statement, JobKind>
+    ensures { result ≡ machine_directive_of (texts behind.now) }
+{
+    let [
+        name,
+        word_in,
+        parent,
+        word_block,
+        b,
+        word_pages,
+        n,
+        word_table,
+        t,
+        word_at,
+        p,
+    ] = behind
+    else {
+        return Err(JobKind::Words);
+    };
+    let name = words::named(name)?;
+    words::fixed(b"in", word_in)?;
+    let parent = words::named(parent)?;
+    words::fixed(b"block", word_block)?;
+    let block = words::later_page(b)?;
+    words::fixed(b"pages", word_pages)?;
+    let pages = words::pages(n)?;
+    words::fixed(b"table", word_table)?;
+    let table = words::page(t)?;
+    words::fixed(b"at", word_at)?;
+    let at = words::page(p)?;
+    Ok(Statement::Directive(Directive::Machine {
+        name,
+        parent,
+        block,
+        pages,
+        table,
+        at,
+    }))
+}
+
+#[tactic(auto, unfolding(crate::specs::Statements::map_directive_of))]
+fn map_directive(behind: &[&[u8]]) -> Result<Statement, JobKind>
+    ensures { result ≡ map_directive_of (texts behind.now) }
+{
+    match behind {
+        [name, i, word_none] => {
+            let name = words::named(name)?;
+            let page = words::page(i)?;
+            words::fixed(b"none", word_none)?;
+            Ok(Statement::Directive(Directive::Map {
+                name,
+                page,
+                entry: 0,
+            }))
+        }
+        [name, i, bits, p] => {
+            let name = words::named(name)?;
+            let page = words::page(i)?;
+            let bits = words::access(bits)?;
+            let target = words::page(p)?;
+            Ok(Statement::Directive(Directive::Map {
+                name,
+                page,
+                entry: target * 4096 + bits,
+            }))
+        }
+        _ => Err(JobKind::Words),
+    }
+}
+
+#[tactic(auto, unfolding(crate::specs::Statements::start_directive_of))]
+fn start_directive(behind: &[&[u8]]) -> Result<Statement, JobKind>
+    ensures { result ≡ start_directive_of (texts behind.now) }
+{
+    let [name, a] = behind else {
+        return Err(JobKind::Words);
+    };
+    let name = words::named(name)?;
+    let pc = words::address(a)?;
+    Ok(Statement::Directive(Directive::Start { name, pc }))
+}
+
+#[tactic(auto, unfolding(crate::specs::Statements::image_directive_of))]
+fn image_directive(behind: &[&[u8]]) -> Result<Statement, JobKind>
+    ensures { result ≡ image_directive_of (texts behind.now) }
+{
+    let [name, a] = behind else {
+        return Err(JobKind::Words);
+    };
+    let name = words::named(name)?;
+    let at = words::address(a)?;
+    Ok(Statement::Image { name, at })
+}
+
+#[tactic(auto, unfolding(crate::specs::Statements::sample_directive_of))]
+fn sample_directive(behind: &[&[u8]]) -> Result<Statement, JobKind>
+    ensures { result ≡ sample_directive_of (texts behind.now) }
+{
+    let [name, a, which] = behind else {
+        return Err(JobKind::Words);
+    };
+    let name = words::named(name)?;
+    let at = words::address(a)?;
+    let which = words::any_sample(which)?;
+    Ok(Statement::Sample { name, at, which })
+}
+
+#[tactic(auto, unfolding(crate::specs::Statements::word_directive_of))]
+fn word_directive(alloc: Global, behind: &[&[u8]]) -> Result<Statement, JobLineEnd>
+    ensures { GivesLine result (word_directive_of (texts behind.now)) }
+{
+    let [name, a, values @ ..] = behind else {
+        return Err(JobLineEnd::Fault(JobKind::Words));
+    };
+    if values.is_empty() || values.len() > JOB_VALUES {
+        return Err(JobLineEnd::Fault(JobKind::Words));
+    }
+    let name = words::named(name)?;
+    let at = words::address(a)?;
+    let values = words::numbers(alloc, values)?;
+    Ok(Statement::Directive(Directive::Word { name, at, values }))
+}
+
+#[tactic(auto, unfolding(crate::specs::Statements::tower_directive_of))]
+fn tower_directive(behind: &[&[u8]]) -> Result<Statement, JobKind>
+    ensures { result ≡ tower_directive_of (texts behind.now) }
+{
+    match behind {
+        [d, word_pages, n] => {
+            let depth = words::between(0, JOB_DEPTH, d)?;
+            words::fixed(b"pages", word_pages)?;
+            let pages = words::pages(n)?;
+            Ok(Statement::Directive(Directive::Tower {
+                depth,
+                pages,
+                which: Sample::Pass,
+            }))
+        }
+        [d, word_pages, n, which] => {
+            let depth = words::between(0, JOB_DEPTH, d)?;
+            words::fixed(b"pages", word_pages)?;
+            let pages = words::pages(n)?;
+            let which = words::inner(which)?;
+            Ok(Statement::Directive(Directive::Tower {
+                depth,
+                pages,
+                which,
+            }))
+        }
+        _ => Err(JobKind::Words),
+    }
+}
+
+#[tactic(auto, unfolding(crate::specs::Statements::turn_directive_of))]
+fn turn_directive(behind: &[&[u8]]) -> Result<Statement, JobKind>
+    ensures { result ≡ turn_directive_of (texts behind.now) }
+{
+    let [h, n] = behind else {
+        return Err(JobKind::Words);
+    };
+    let hart = words::hart(h)?;
+    let count = words::between(1, STEPS as u32, n)?;
+    Ok(Statement::Event(Event::Turn { hart, count }))
+}
+
+#[tactic(auto, unfolding(crate::specs::Statements::lines_directive_of))]
+fn lines_directive(behind: &[&[u8]]) -> Result<Statement, JobKind>
+    ensures { result ≡ lines_directive_of (texts behind.now) }
+{
+    let [h, m] = behind else {
+        return Err(JobKind::Words);
+    };
+    let hart = words::hart(h)?;
+    let mask = words::mask(m)?;
+    Ok(Statement::Event(Event::Lines { hart, mask }))
+}
+
+#[tactic(auto, unfolding(crate::specs::Statements::watch_directive_of))]
+fn watch_directive(behind: &[&[u8]]) -> Result<Statement, JobKind>
+    ensures { result ≡ watch_directive_of (texts behind.now) }
+{
+    let [h, name] = behind else {
+        return Err(JobKind::Words);
+    };
+    let hart = words::hart(h)?;
+    let name = words::named(name)?;
+    Ok(Statement::Directive(Directive::Watch { hart, name }))
+}
+
+#[tactic(auto, unfolding(crate::specs::Statements::dump_directive_of))]
+fn dump_directive(behind: &[&[u8]]) -> Result<Statement, JobKind>
+    ensures { result ≡ dump_directive_of (texts behind.now) }
+{
+    let [name, i] = behind else {
+        return Err(JobKind::Words);
+    };
+    let name = words::named(name)?;
+    let page = words::page(i)?;
+    Ok(Statement::Directive(Directive::Dump { name, page }))
+}
+
+#[cfg(test)]
+mod tests {
+    use super::*;
+    use crate::lines::{begins_with, has_allowed_bytes, has_words, is_header, is_only};
+    use std::test::Fail;
+
+    #[test]
+    fn reads_a_machine(rt: HostRuntime) -> Result<(), Fail> {
+        let line = b"machine kid in root block 1 pages 4\ttable 2 at 0x4 # one";
+        let Ok(
+            Statement::Directive(
+                Directive::Machine {
+                    name,
+                    parent,
+                    block,
+                    pages,
+                    table,
+                    at,
+                },
+            ),
+        ) = read_statement(rt.alloc(), line)
+        else {
+            return Err("no machine".into());
+        };
+        assert!(rt; name.is(b"kid") && parent.is(b"root"));
+        assert_eq!(rt; (block, pages, table, at), (1, 4, 2, 4));
+        Ok(())
+    }
+
+    #[test]
+    fn reads_entries(rt: HostRuntime) -> Result<(), Fail> {
+        for (line, entry) in [
+            (b"map kid 1 none".as_slice(), 0),
+            (b"map kid 1 ro 5", 0x5001),
+            (b"map kid 1 rw 0xfffff", 0xffff_f003),
+        ] {
+            let Ok(Statement::Directive(Directive::Map { entry: read, .. })) = read_statement(
+                rt.alloc(),
+                line,
+            ) else {
+                return Err("no entry".into());
+            };
+            assert_eq!(rt; read, entry);
+        }
+        Ok(())
+    }
+
+    #[test]
+    fn reads_words(rt: HostRuntime) -> Result<(), Fail> {
+        let Ok(Statement::Directive(Directive::Word { at, values, .. })) = read_statement(
+            rt.alloc(),
+            b"word root 0x5000 3 0x1003",
+        ) else {
+            return Err("no words".into());
+        };
+        assert_eq!(rt; at, 0x5000);
+        assert_eq!(rt; values.as_slice(), [3, 0x1003].as_slice());
+        Ok(())
+    }
+
+    #[test]
+    fn reads_towers(rt: HostRuntime) -> Result<(), Fail> {
+        for (line, sample) in [
+            (b"tower 8 pages 1".as_slice(), Sample::Pass),
+            (b"tower 0 pages 16384 forward", Sample::Forward),
+        ] {
+            let Ok(Statement::Directive(Directive::Tower { which, .. })) = read_statement(
+                rt.alloc(),
+                line,
+            ) else {
+                return Err("no tower".into());
+            };
+            assert_eq!(rt; which, sample);
+        }
+        Ok(())
+    }
+
+    #[test]
+    fn refuses_the_first_word_that_fails(rt: HostRuntime) {
+        for (line, kind) in [
+            (b"end".as_slice(), JobKind::Directive),
+            (b"job 1", JobKind::Directive),
+            (b"Word root 0 1", JobKind::Directive),
+            (b"word root 0", JobKind::Words),
+            (b"word root 0 1 2 3 4 5 6 7 8 9", JobKind::Words),
+            (
+                b"machine kid in root block 1 pages 4 table 2 at 4 5 6 7",
+                JobKind::Words,
+            ),
+            (b"map 9bad 0 none 5", JobKind::Name),
+            (b"map 9bad 1 ro", JobKind::Name),
+            (b"map kid 0 none 5", JobKind::Words),
+            (b"map kid 0 foo 5", JobKind::Words),
+            (b"map kid 1 ro", JobKind::Words),
+            (b"tower 1 pages 4 slicer", JobKind::Words),
+            (b"start abcdefghijklmnopq 0", JobKind::Name),
+            (b"start kid 0x", JobKind::Number),
+            (b"start kid 2", JobKind::Range),
+            (b"turn 4 1", JobKind::Range),
+            (b"turn 0 0", JobKind::Range),
+            (b"turn 0 1000000001", JobKind::Range),
+            (b"lines 0 0x889", JobKind::Range),
+            (b"storage 8", JobKind::Directive),
+        ] {
+            assert!(rt;
+                matches!(read_statement(rt.alloc(), line), Err(JobLineEnd::Fault(read)) if read == kind)
+            );
+        }
+    }
+
+    #[test]
+    fn knows_the_lines_of_the_frame(rt: HostRuntime) {
+        assert!(rt; is_header(b" job\t1# the header"));
+        for line in [b"job 0x1".as_slice(), b"job 01", b"job", b"job 1 1"] {
+            assert!(rt; !is_header(line));
+        }
+        assert!(rt; begins_with(b"storage", b"storage") && !begins_with(b"storage", b"# storage"));
+        assert!(rt; is_only(b"end", b"\tend # of it") && !is_only(b"end", b"end it"));
+        assert!(rt; has_words(b"a#") && !has_words(b" \t# a"));
+        assert!(rt; has_allowed_bytes(b"\t~") && !has_allowed_bytes(b"# \x7f"));
+    }
+}

@@ -1,6 +1,0 @@
-use Rattle.std.proofs.Common.{◌≡◌, ◌*◌}
-use Rattle.hv_report.specs.Dumps.{words_bytes}
-use Rattle.hv_report.proofs.dumps.row_bytes.Given as goal
-
-abbrev pub invariant-loop-k : goal.invariant-loop-k
-invariant-loop-k l = l.bytes.items ≡ words_bytes l.store l.host (8 * l.row) l.k

@@ -54,7 +54,7 @@ impl Footing {
 
 // Puts the machine's places into an empty set.
 fn put_foot(words: &mut [u32], store: &Store, chain: &Chain)
-    requires pin_of { pin_of store.now (map syllable_of chain.now) ≡ Some chain.now }
+    requires pinned { pin_of store.now (map syllable_of chain.now) ≡ Some chain.now }
     requires room { length words.old ≡ 32 * page_count store.now }
     ensures { SetOf words.old [] → SetOf words.new (foot store.now chain.now) }
 {
@@ -64,7 +64,7 @@ fn put_foot(words: &mut [u32], store: &Store, chain: &Chain)
 
 // Puts the places of all words that the machine stands on into the set.
 fn put_places(words: &mut [u32], store: &Store, chain: &Chain)
-    requires pin_of { pin_of store.now (map syllable_of chain.now) ≡ Some chain.now }
+    requires pinned { pin_of store.now (map syllable_of chain.now) ≡ Some chain.now }
     requires room { length words.old ≡ 32 * page_count store.now }
     ensures { Joined words.old words.new (standing_places store.now chain.now) }
 {
@@ -75,7 +75,7 @@ fn put_places(words: &mut [u32], store: &Store, chain: &Chain)
 
 // Takes the word that has the machine's interrupt lines out of the set: a machine that sees its own block would bring it in.
 fn drop_lines(words: &mut [u32], store: &Store, chain: &Chain)
-    requires pin_of { pin_of store.now (map syllable_of chain.now) ≡ Some chain.now }
+    requires pinned { pin_of store.now (map syllable_of chain.now) ≡ Some chain.now }
     requires room { length words.old ≡ 32 * page_count store.now }
     ensures { (xs : List ℕ) → SetOf words.old xs → SetOf words.new (but_lines (last_block chain.now) xs) }
 {
@@ -88,7 +88,7 @@ fn drop_lines(words: &mut [u32], store: &Store, chain: &Chain)
 
 // The words that the maps along the chain are read from.
 fn put_items(words: &mut [u32], store: &Store, chain: &Chain)
-    requires pin_of { pin_of store.now (map syllable_of chain.now) ≡ Some chain.now }
+    requires pinned { pin_of store.now (map syllable_of chain.now) ≡ Some chain.now }
     requires room { length words.old ≡ 32 * page_count store.now }
     ensures { Joined words.old words.new (chain_foot store.now (identity (page_count store.now)) 0 chain.now) }
 {
@@ -130,7 +130,7 @@ fn put_tables(words: &mut [u32], store: &Store, chain: &Chain, child: ChainItem)
 
 // The words of the last machine's registers in its control block, without word 42.
 fn put_own(words: &mut [u32], store: &Store, chain: &Chain)
-    requires pin_of { pin_of store.now (map syllable_of chain.now) ≡ Some chain.now }
+    requires pinned { pin_of store.now (map syllable_of chain.now) ≡ Some chain.now }
     requires room { length words.old ≡ 32 * page_count store.now }
     ensures { Joined words.old words.new (own_places (last_block chain.now)) }
 {

@@ -17,7 +17,7 @@ use hv_word::field;
 /// The first `level` machines of a chain of the store.
 pub(crate) fn prefix(store: &Store, chain: &Chain, level: u32) -> Chain
     requires level { level ≤ length chain.now }
-    requires pin_of { pin_of store.now (map syllable_of chain.now) ≡ Some chain.now }
+    requires pinned { pin_of store.now (map syllable_of chain.now) ≡ Some chain.now }
     ensures { result ≡ take level chain.now }
 {
     let whole = chain.path();

@@ -97,14 +97,19 @@ fits_hart r =
     && (r.sepc % 4 == 0)
     && (bit_and r.satp satp_mask == r.satp)
 
--- whether the child has a size and a table that can be, a next inside its pages, and a version that there is
+-- whether a child can have these pages, table, version and next: a size and a table that can be, a next inside its pages, and
+-- a version that there is
+abbrev pub fits_size : ℕ → ℕ → ℕ → ℕ → Bool
+fits_size pages table version next =
+    nat_lt 0 pages
+    && nat_le pages (2 ^ 20)
+    && nat_lt table (2 ^ 20)
+    && nat_lt next pages
+    && ((version == 0) || (version == 2))
+
+-- the same of those that the words of page g say
 abbrev pub fits_pages : List ℕ → ℕ → Bool
-fits_pages S g =
-    nat_lt 0 (pages_at S g)
-    && nat_le (pages_at S g) (2 ^ 20)
-    && nat_lt (table_at S g) (2 ^ 20)
-    && nat_lt (word_at S g 64) (pages_at S g)
-    && ((version_at S g == 0) || (version_at S g == 2))
+fits_pages S g = fits_size (pages_at S g) (table_at S g) (version_at S g) (word_at S g 64)
 
 -- whether the words of page g are well formed
 abbrev pub is_block : List ℕ → ℕ → Bool

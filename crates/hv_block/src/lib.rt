@@ -5,9 +5,9 @@ ghost use Rattle.std.specs.Prelude.{◌≡◌, ℕ, ◌+◌, ◌*◌, ◌^◌, �
 ghost use Rattle.std.specs.Option.{option_map};
 ghost use Rattle.hv_word.specs.Storage.{page_count, word_at};
 ghost use Rattle.hv_cpu.specs.Regs.{FitsHart, file_of};
-ghost use Rattle.hv_block.specs.Block.{regs_at, fits_hart, block_of, put_regs, with_fault};
+ghost use Rattle.hv_block.specs.Block.{fits_size, regs_at, fits_hart, block_of, put_regs, with_fault};
 ghost use Rattle.std.proofs.Math.Seq.{sets};
-ghost use Rattle.hv_block.specs.Held.{held_of, fits_size};
+ghost use Rattle.hv_block.specs.Held.{held_of};
 
 pub mod laws;
 #[cfg(test)]

@@ -3,13 +3,14 @@ use Rattle.std.specs.Prelude.{ℕ, Bool, ◌==◌, ◌&&◌, ◌||◌, nat_lt, i
 use Rattle.hv_word.specs.Words.{field_of}
 use Rattle.hv_cpu.specs.Regs.{Regs}
 use Rattle.hv_csr.specs.declared.csr.Csr.{Csr}
+use Rattle.hv_csr.specs.declared.csr.Csr.TheVariants.{Satp}
 use Rattle.hv_csr.specs.Table.{row_of, csr_of}
 
 -- bits 9:8 of the number are the least mode that may use it (Privileged Architecture, section 2.1), and
 -- TVM keeps satp from S (section 3.1.6.5)
 abbrev pub is_barred : Regs → ℕ → Bool
 is_barred r number =
-    nat_lt r.mode (field_of number 8 2) || (number == 0x180 && (r.mode == 1 && field_of r.mstatus 20 1 == 1))
+    nat_lt r.mode (field_of number 8 2) || (number == (row_of Satp).number && (r.mode == 1 && field_of r.mstatus 20 1 == 1))
 
 -- bits 11:10 of the number are 3 where the register can only be read (section 2.1)
 abbrev pub is_read_only : ℕ → Bool

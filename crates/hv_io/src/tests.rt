@@ -1,6 +1,7 @@
 //! The calls on their happy paths, in chunks of one byte, and with faults in mid-stream.
 
 use super::*;
+use hv_limits::INPUT_BYTES;
 use std::alloc::{AllocError, Global};
 use std::test::Fail;
 

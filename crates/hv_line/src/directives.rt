@@ -323,21 +323,42 @@ mod tests {
     use crate::lines::{begins_with, has_allowed_bytes, has_words, is_header, is_only};
     use std::test::Fail;
 
+    // The directive that a line says at once, if it says one.
+    fn directive(alloc: Global, line: &[u8]) -> Option<Directive> {
+        let Ok(statement) = read_statement(alloc, line) else {
+            return None;
+        };
+        match statement {
+            Statement::Directive(what) => Some(what),
+            _other => None,
+        }
+    }
+
+    // Why a line is refused, if it is.
+    fn refusal(alloc: Global, line: &[u8]) -> Option<JobKind> {
+        let Err(end) = read_statement(alloc, line) else {
+            return None;
+        };
+        match end {
+            JobLineEnd::Fault(kind) => Some(kind),
+            JobLineEnd::Memory => None,
+        }
+    }
+
     #[test]
     fn reads_a_machine(rt: HostRuntime) -> Result<(), Fail> {
         let line = b"machine kid in root block 1 pages 4\ttable 2 at 0x4 # one";
-        let Ok(
-            Statement::Directive(
-                Directive::Machine {
-                    name,
-                    parent,
-                    block,
-                    pages,
-                    table,
-                    at,
-                },
-            ),
-        ) = read_statement(rt.alloc(), line)
+        let Some(what) = directive(rt.alloc(), line) else {
+            return Err("no directive".into());
+        };
+        let Directive::Machine {
+            name,
+            parent,
+            block,
+            pages,
+            table,
+            at,
+        } = what
         else {
             return Err("no machine".into());
         };
@@ -353,10 +374,10 @@ mod tests {
             (b"map kid 1 ro 5", 0x5001),
             (b"map kid 1 rw 0xfffff", 0xffff_f003),
         ] {
-            let Ok(Statement::Directive(Directive::Map { entry: read, .. })) = read_statement(
-                rt.alloc(),
-                line,
-            ) else {
+            let Some(what) = directive(rt.alloc(), line) else {
+                return Err("no directive".into());
+            };
+            let Directive::Map { entry: read, .. } = what else {
                 return Err("no entry".into());
             };
             assert_eq!(rt; read, entry);
@@ -366,10 +387,10 @@ mod tests {
 
     #[test]
     fn reads_words(rt: HostRuntime) -> Result<(), Fail> {
-        let Ok(Statement::Directive(Directive::Word { at, values, .. })) = read_statement(
-            rt.alloc(),
-            b"word root 0x5000 3 0x1003",
-        ) else {
+        let Some(what) = directive(rt.alloc(), b"word root 0x5000 3 0x1003") else {
+            return Err("no directive".into());
+        };
+        let Directive::Word { at, values, .. } = what else {
             return Err("no words".into());
         };
         assert_eq!(rt; at, 0x5000);
@@ -383,10 +404,10 @@ mod tests {
             (b"tower 8 pages 1".as_slice(), Sample::Pass),
             (b"tower 0 pages 16384 forward", Sample::Forward),
         ] {
-            let Ok(Statement::Directive(Directive::Tower { which, .. })) = read_statement(
-                rt.alloc(),
-                line,
-            ) else {
+            let Some(what) = directive(rt.alloc(), line) else {
+                return Err("no directive".into());
+            };
+            let Directive::Tower { which, .. } = what else {
                 return Err("no tower".into());
             };
             assert_eq!(rt; which, sample);
@@ -421,9 +442,7 @@ mod tests {
             (b"lines 0 0x889", JobKind::Range),
             (b"storage 8", JobKind::Directive),
         ] {
-            assert!(rt;
-                matches!(read_statement(rt.alloc(), line), Err(JobLineEnd::Fault(read)) if read == kind)
-            );
+            assert_eq!(rt; refusal(rt.alloc(), line), Some(kind));
         }
     }
 

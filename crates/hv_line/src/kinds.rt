@@ -69,6 +69,11 @@ impl JobKind {
 }
 
 impl Display for JobKind {
+    ghost use Rattle.std.specs.Prelude.{Some};
+    ghost use Rattle.hv_line.specs.Kinds.{kind_word};
+
+    ghost output = { λ kind. Some (kind_word kind) };
+
     fn fmt<W: fmt::Write>(&self, f: &mut Formatter<W>) -> fmt::Result {
         f.write_str(self.word())
     }

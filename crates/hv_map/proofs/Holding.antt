@@ -14,7 +14,7 @@ use Rattle.hv_block.proofs.Blocks.{block_sized}
 use Rattle.hv_map.specs.Apart.{has}
 use Rattle.hv_map.specs.Chain.{map_along, child_held, child_through, child_at, child_of, machines, pin_of, child_next, run_on, running, running_path}
 use Rattle.hv_map.specs.Compose.{compose}
-use Rattle.hv_map.specs.Held.{Lists, SamePage, SamePages, SaysItem, SaysItems, SameNexts, IsPlaced, Placed, Nexts, IsPin, IsHeld}
+use Rattle.hv_map.specs.Held.{Lists, SamePage, SamePages, SaysItem, SaysItems, SameNexts, IsPlaced, Placed, Nexts, IsPin, IsHeld, IsRight}
 use Rattle.hv_map.specs.Item.{Item}
 use Rattle.hv_map.specs.Noted.{Listed, Noted, slots_of, pages_noted, pages_read, notes, bare_notes, notes_along, block_pages, pin_pages}
 use Rattle.hv_map.specs.Words.{syllables}
@@ -138,14 +138,15 @@ placed_pin S items p placed =
 
 pub held_right : (S : List ℕ) (items : List Item) (p : Listed) (page : ℕ) (slot : Slot)
     → IsHeld S items p page slot
-    → (pin_of S (syllables items) ≡ Some items) × (slice_get (map_along S items) page ≡ Some slot)
-held_right S items p page slot held = (
-  placed_pin S items p held.placed,
-  ap (λ (F : List Slot). slice_get F page) (sym (slots-along S items))
-      ∙ slice_get-map (λ (n : Noted). n.slot) (notes_along S items) page
-      ∙ ap (option_map (λ (n : Noted). n.slot)) held.found
-      ∙ ap Some held.same,
-)
+    → (pin_of S (syllables items) ≡ Some items) × IsRight S (syllables items) page slot
+held_right S items p page slot held =
+    let there : pin_of S (syllables items) ≡ Some items = placed_pin S items p held.placed in
+    let has_slot : slice_get (map_along S items) page ≡ Some slot =
+    ap (λ (F : List Slot). slice_get F page) (sym (slots-along S items))
+    ∙ slice_get-map (λ (n : Noted). n.slot) (notes_along S items) page
+    ∙ ap (option_map (λ (n : Noted). n.slot)) held.found
+    ∙ ap Some held.same in
+    (there, (map_along S items, ap (option_map (map_along S)) there, has_slot))
 
 -- the running path goes by the same machines
 next_runs : (S : List ℕ) (F : List Slot) (next s : ℕ) → next ≡ s → 0 < s → child_next S F next ≡ child_of S F s

@@ -9,7 +9,7 @@ use Rattle.hv_store.specs.declared.access.Slot.{Slot}
 use Rattle.hv_store.specs.declared.access.Way.TheVariants.{Open}
 use Rattle.hv_block.specs.Block.{block_of, regs_at}
 use Rattle.hv_map.specs.Apart.{has}
-use Rattle.hv_map.specs.Chain.{child_held, map_along, pin_of, running_path}
+use Rattle.hv_map.specs.Chain.{child_held, map_along, map_of, pin_of, running_path}
 use Rattle.hv_map.specs.Item.{Item}
 use Rattle.hv_map.specs.Noted.{Listed, Noted, bare_notes, notes, notes_along, pin_pages, slots_of, with_pages}
 use Rattle.hv_map.specs.Words.{syllables}
@@ -76,7 +76,7 @@ abbrev pub NotedMapLaw : Type 0
 NotedMapLaw = (S : List ℕ) (items : List Item) → slots_of (notes_along S items) ≡ map_along S items
 
 -- A slot depends on nothing but the words of the pages that are noted beside it: two storages of one length that agree
--- on these have it alike, with the same notes.
+-- on these have it alike, with the same notes. (A machine has at most 2 ^ 20 pages, as every well-formed block says.)
 abbrev pub NotedSlotLaw : Type 0
 NotedSlotLaw =
     (S T : List ℕ) (items : List Item) (page : ℕ) (n : Noted)
@@ -102,12 +102,16 @@ PlacedLaw =
     → Lists p (pin_pages S items)
     → Placed S (bare_notes (page_count S)) p 0 items
 
--- what is held is right: these are the machines on their path, and the page has this slot in the last one's map
+-- A held translation, of a page of the machine on a path, is right: the path has a map, and the page this slot in it.
+abbrev pub IsRight : List ℕ → List ℕ → ℕ → Slot → Type 0
+IsRight S path page slot = (F : List Slot) × (map_of S path ≡ Some F) × (slice_get F page ≡ Some slot)
+
+-- what is held is right, and its items are the machines on their path
 abbrev pub HeldIsRightLaw : Type 0
 HeldIsRightLaw =
     (S : List ℕ) (items : List Item) (p : Listed) (page : ℕ) (slot : Slot)
     → IsHeld S items p page slot
-    → (pin_of S (syllables items) ≡ Some items) × (slice_get (map_along S items) page ≡ Some slot)
+    → (pin_of S (syllables items) ≡ Some items) × IsRight S (syllables items) page slot
 
 -- a pin is right: its machines are those on the running path
 abbrev pub PinIsRightLaw : Type 0

@@ -1,4 +1,4 @@
--- What a step changes that was refused, or after which a machine get control back for an interrupt: nothing but the
+-- What a step changes that was refused, or after which a machine got control back for an interrupt: nothing but the
 -- next of the machine that received it, and of the words that tell of a fault those of one block.
 use Rattle.std.specs.Prelude.{◌≡◌, ℕ, zero, suc, ◌<◌, ◌≤◌, ◌⊎◌, IsSomeAnd, List, length, take, Some, slice_get}
 use Rattle.hv_word.specs.Storage.{page_count, word_at}
@@ -31,7 +31,7 @@ abbrev pub hart_after : ℕ → Regs → Regs
 hart_after zero r = idle r
 hart_after (suc l) r = r
 
--- the machine at level l, one of those on the path, get control back; beside its next the words that P names may change
+-- the machine at level l, one of those on the path, got control back; beside its next the words that P names may change
 pub record GetsBack (S : List ℕ) (items : List Item) (r : Regs) (l : ℕ) (P : ℕ → ℕ → Type 0) (T : List ℕ) (q : Regs)
     : Type 0 where
   pub there : l ≤ length items

@@ -1,6 +1,6 @@
 -- One step of a machine at level j, with the machines inside it. The registers name by `next` the page of the child
 -- that the machine runs, 0 for none; then the child makes the step. A machine's map is the list of its slots, and is
--- compose anew for each child; the child's registers are read from its block before the step and put back after it.
+-- composed anew for each child; the child's registers are read from its block before the step and put back after it.
 use Rattle.std.specs.Prelude.{ℕ, zero, suc, ◌+◌, ◌*◌, ◌==◌, true, if◌then◌else◌, List, Option, Some, None, slice_get}
 use Rattle.hv_word.specs.Storage.{page_count}
 use Rattle.hv_cpu.specs.Regs.{Regs}
@@ -22,7 +22,7 @@ use Rattle.hv_map.specs.Compose.{compose}
 pub data Stepped : Type 0 where
   -- an instruction was executed, or its trap or an interrupt taken
   Worked : (S : List ℕ) (r : Regs) → Stepped
-  -- the machine at that level get control back, for an interrupt of its own
+  -- the machine at that level got control back, for an interrupt of its own
   Recalled : (level : ℕ) (S : List ℕ) (r : Regs) → Stepped
   -- a map refused, or a child couldn't run, and the machine at that level was told
   Faulted : (level cause address : ℕ) (access : Access) (S : List ℕ) (r : Regs) → Stepped
@@ -78,7 +78,8 @@ abbrev pub child_through : Machine → List ℕ → List Slot → ℕ → Regs �
 child_through deeper S F j r (Open g) = child_step deeper S F j r g (block_of S g)
 child_through deeper S F j r (Shut l c p w) = Barred (refused l c p w 0 Write)
 
--- the page of the block must be one that the machine may write; a machine keeps its next below its number of pages
+-- The page of the block must be one that the machine may write. (A machine keeps its next below its number of pages, so the
+-- case of a page that it hasn't is never reached.)
 abbrev pub child_at : Machine → List ℕ → List Slot → ℕ → Regs → Option Slot → Stepped
 child_at deeper S F j r None = Barred (too_deep r.next)
 child_at deeper S F j r (Some slot) = child_through deeper S F j r slot.write

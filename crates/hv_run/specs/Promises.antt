@@ -31,7 +31,7 @@ abbrev pub is_touched_by : State → List Move → WatchOf → List Item → ℕ
 is_touched_by start moves w items k = (tally_at start moves w items k).touched
 
 -- a bare machine of one hart that began with the storage that the watched one saw at the start, and with its registers,
--- and that made the steps and get the changes of its interrupt lines which are told of these moves
+-- and that made the steps and got the changes of its interrupt lines which are told of these moves
 abbrev pub twin_after : State → WatchOf → List Item → Tally → State
 twin_after start w items t =
     bare_of (seen start.storage (map_along start.storage items)) (own w.hart items start) t.changes t.count
@@ -69,7 +69,8 @@ IsBareRun start moves w =
 abbrev pub AreBareRuns : State → List Move → List WatchOf → Type 0
 AreBareRuns start moves watches = EachWatch (IsBareRun start moves) watches
 
--- guests can't tell, whatever the start and the moves
+-- Guests can't tell, whatever the start and the moves. (The watches are of machines that are there, and a change of lines
+-- changes lines alone.)
 abbrev pub GuestsLaw : Type 0
 GuestsLaw =
     (start : State) (moves : List Move) (watches : List WatchOf)
@@ -130,7 +131,8 @@ AreRouted start moves faults = EachFault (IsRoutedFault start moves) faults
 abbrev pub FaultsAreRouted : State → List Move → Type 0
 FaultsAreRouted start moves = AreRouted start moves (all_faults start moves)
 
--- faults reach the first refusing level, whatever the start and the moves
+-- Faults reach the first refusing level, whatever the start and the moves. (Every hart is there, and what it runs is a page of
+-- the storage.)
 abbrev pub FaultsLaw : Type 0
 FaultsLaw =
     (start : State) (moves : List Move)

@@ -24,12 +24,12 @@ pub record IsBuilt (job : Job) (start : Start) : Type 0 where
 abbrev pub IsWritten : Answer → ((Job → Start → List ℕ) → Output) → Type 0
 IsWritten answer output = (tell : Job → Start → List ℕ) → output_in answer ≡ output tell
 
--- the job with its start; or the refusal of it, with which nothing is promised
+-- the job with its start; or the refusal of it, for which there is nothing to promise
 abbrev pub IsStarting : Job → Opening → Type 0
 IsStarting job (Ready own start) = (own ≡ job) × IsBuilt job start
 IsStarting job (Refused answer) = IsWritten answer (λ tell. started_output tell job) × JobIsPromised job
 
--- the job that a text is with its start; or the refusal of the text, with which nothing is promised
+-- the job that a text is with its start; or the refusal of the text, for which there is nothing to promise
 abbrev pub IsOpening : List ℕ → Opening → Type 0
 IsOpening text (Ready job start) = (job_of text ≡ Ok job) × IsBuilt job start
 IsOpening text (Refused answer) = IsWritten answer (λ tell. told_output tell text) × TextIsPromised text

@@ -5,7 +5,7 @@ use Rattle.hv_csr.specs.Interrupts.{pending_of}
 use Rattle.hv_block.specs.Block.{regs_at, fits_hart}
 use Rattle.hv_map.specs.Item.{Item}
 
--- before its first step, before its second, before it enters its child, while the child runs, and after it get control back
+-- before its first step, before its second, before it enters its child, while the child runs, and after it got control back
 pub data Phase : Type 0 where
   Fresh : Phase
   Loaded : Phase

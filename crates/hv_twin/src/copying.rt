@@ -18,7 +18,7 @@ use std::alloc::{AllocError, Global};
 /// there, and zero where it can't be read. The chain is the store's, and its machine has no more pages than a storage can
 /// have.
 pub fn seen(alloc: Global, store: &Store, chain: &Chain) -> Result<Store, AllocError>
-    requires pin_of { pin_of store.now (map syllable_of chain.now) ≡ Some chain.now }
+    requires pinned { pin_of store.now (map syllable_of chain.now) ≡ Some chain.now }
     requires pages { length (map_along store.now chain.now) ≤ pages_limit }
     ensures { IfOk result (λ new. new ≡ seen_of store.now (map_along store.now chain.now)) }
 {

@@ -19,13 +19,13 @@ loop-level-init c = joined_none c.args.words.now
 pub put_item-requires-clause-block : goal.put_item-requires-clause-block
 put_item-requires-clause-block c =
     let x = item_there c.args.chain.now c.loop-level.level c.item.result c.item.ensures in
-    let fits = pinned_fits c.args.store.now c.args.chain.now c.loop-level.level x.0 c.requires.pin_of x.1 in
+    let fits = pinned_fits c.args.store.now c.args.chain.now c.loop-level.level x.0 c.requires.pinned x.1 in
     subst (λ (i : ChainItem). i.block < page_count c.args.store.now) x.2 fits.block
 
 pub put_item-requires-clause-pages : goal.put_item-requires-clause-pages
 put_item-requires-clause-pages c =
     let x = item_there c.args.chain.now c.loop-level.level c.item.result c.item.ensures in
-    let fits = pinned_fits c.args.store.now c.args.chain.now c.loop-level.level x.0 c.requires.pin_of x.1 in
+    let fits = pinned_fits c.args.store.now c.args.chain.now c.loop-level.level x.0 c.requires.pinned x.1 in
     subst (λ (i : ChainItem). i.pages ≤ 1048576) x.2 fits.pages
 
 pub loop-level-preserved : goal.loop-level-preserved

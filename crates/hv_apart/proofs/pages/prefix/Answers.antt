@@ -6,10 +6,10 @@ use Rattle.hv_apart.proofs.pages.prefix.Goals as goal
 
 pub unwrap-requires : goal.unwrap-requires
 unwrap-requires c =
-    let found = pinned_first c.args.store.now c.args.chain.now c.args.level c.loop-syllable.syllable-index c.as_slice.result.now c.loop-syllable.path c.requires.pin_of (c.as_slice.ensures.items ∙ c.path-whole.ensures) c.loop-syllable.invariant c.loop-syllable-test.false in
+    let found = pinned_first c.args.store.now c.args.chain.now c.args.level c.loop-syllable.syllable-index c.as_slice.result.now c.loop-syllable.path c.requires.pinned (c.as_slice.ensures.items ∙ c.path-whole.ensures) c.loop-syllable.invariant c.loop-syllable-test.false in
     subst IsSome (sym (c.pin.ensures ∙ found)) refl
 
 pub returns : goal.returns
 returns c =
-    let found = pinned_first c.args.store.now c.args.chain.now c.args.level c.loop-syllable.syllable-index c.as_slice.result.now c.loop-syllable.path c.requires.pin_of (c.as_slice.ensures.items ∙ c.path-whole.ensures) c.loop-syllable.invariant c.loop-syllable-test.false in
+    let found = pinned_first c.args.store.now c.args.chain.now c.args.level c.loop-syllable.syllable-index c.as_slice.result.now c.loop-syllable.path c.requires.pinned (c.as_slice.ensures.items ∙ c.path-whole.ensures) c.loop-syllable.invariant c.loop-syllable-test.false in
     same_Some c.unwrap.result (take c.args.level c.args.chain.now) (sym c.unwrap.ensures ∙ c.pin.ensures ∙ found)

@@ -14,7 +14,7 @@ use Rattle.hv_twin.proofs.copying.seen.Goals.{in-Open, in_default}
 pub new-requires-clause-some : goal.new-requires-clause-some
 new-requires-clause-some c =
     let S = c.args.store.now in
-    let pages : 1 ≤ length (map_along S c.args.chain.now) = pinned_has_pages S (map syllable_of c.args.chain.now) c.args.chain.now (omega arith) c.requires.pin_of in
+    let pages : 1 ≤ length (map_along S c.args.chain.now) = pinned_has_pages S (map syllable_of c.args.chain.now) c.args.chain.now (omega arith) c.requires.pinned in
     omega arith
 
 pub loop-page-init : goal.loop-page-init

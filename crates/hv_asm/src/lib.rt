@@ -164,6 +164,3 @@ fn at_line(end: EmitEnd, line: u32) -> AsmEnd
         EmitEnd::Memory => AsmEnd::Memory,
     }
 }
-
-#[cfg(test)]
-mod tests;

@@ -11,6 +11,3 @@ mod stop;
 mod writing;
 
 pub use writing::transcript;
-
-#[cfg(test)]
-mod tests;

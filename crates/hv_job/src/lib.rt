@@ -31,6 +31,3 @@ pub fn parse_job(alloc: Global, bytes: &[u8]) -> Result<Job, JobEnd>
     let (pages, storage) = read_storage(header.text, header.number)?;
     read_body(alloc, pages, storage.text, storage.number)
 }
-
-#[cfg(test)]
-mod tests;

@@ -15,8 +15,6 @@ mod making;
 mod pages;
 mod parts;
 mod start;
-#[cfg(test)]
-mod tests;
 
 use builder::Builder;
 pub use ends::{BuildEnd, BuildKind};

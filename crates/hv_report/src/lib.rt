@@ -14,6 +14,3 @@ pub use machine::machine_words;
 pub use puts::put_path;
 pub use reporting::{put_hart, report};
 pub use summing::summary;
-
-#[cfg(test)]
-mod tests;

@@ -7,7 +7,7 @@ use Rattle.hv_store.proofs.Identity.{length-zeros}
 use Rattle.hv_samples.specs.declared.choice.Sample.TheVariants.{Pass}
 use Rattle.hv_load.specs.declared.ends.BuildKind.{BuildKind}
 use Rattle.hv_load.specs.Building.{Building, known, nothing_built, root_with}
-use Rattle.hv_load.specs.Build.{parts_of, topped, towered_of, with_top}
+use Rattle.hv_load.specs.Build.{parts_of, top_of, towered_of, with_top}
 use Rattle.hv_load.specs.Pages.{free_at}
 use Rattle.hv_load.specs.Tower.{grown, level_name, tower_of}
 use Rattle.hv_towers.proofs.Passing.{named_last}
@@ -48,7 +48,7 @@ at_first P = record {
   };
   machines = refl;
   free = λ g low high. none_given P g high;
-  unused = λ k low. refl;
+  unused = λ k low high. refl;
 }
 
 -- A tower that was built: its top has so many pages, and the bare pages behind its monitors were given to nothing.
@@ -76,7 +76,7 @@ tower P line depth top few short some fits =
         let found : known (level_name depth) all.after.names ≡ Ok r.last = ap (λ (k : ℕ). known (level_name k) all.after.names) (sym levels) ∙ r.is_known in
         record {
           after = with_top all.after r.last;
-          is = goes_on (parts_of (nothing_built P 1) (tower_of depth top Pass line)) (λ next. topped next depth) all.after (with_top all.after r.last) all.is
+          is = goes_on (parts_of (nothing_built P 1) (tower_of depth top Pass line)) (λ next. top_of next depth) all.after (with_top all.after r.last) all.is
               (goes_on (known (level_name depth) all.after.names) (λ k. Ok (with_top all.after k)) r.last (with_top all.after r.last) found refl);
           ns = all.ns;
           stands = record {

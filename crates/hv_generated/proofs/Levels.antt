@@ -1,7 +1,5 @@
 -- A tower whose levels fit is raised level by level: no part of it is refused.
-use Rattle.std.proofs.Common.{◌≡◌, ℕ, zero, suc, ◌+◌, ◌*◌, ◌<◌, ◌≤◌, inl, inr, Bool, true, false, ◌&&◌, List, [], ◌∷◌, ◌++◌, length, None, Some, Result, Ok, refl, ap, ◌∙◌, sym, subst, arith, get_or}
-use Rattle.std.specs.Str.{bytes_eq}
-use Rattle.std.proofs.lemmas.Bool.{ne_eqb}
+use Rattle.std.proofs.Common.{◌≡◌, ℕ, zero, suc, ◌+◌, ◌*◌, ◌<◌, ◌≤◌, inl, inr, true, List, [], ◌∷◌, ◌++◌, length, None, Some, Result, Ok, refl, ap, ◌∙◌, sym, subst, arith, get_or}
 use Rattle.std.proofs.lemmas.List.{length-replicate}
 use Rattle.hv_limits.specs.Limits.{depth_limit, pages_limit}
 use Rattle.hv_word.specs.Storage.{page_count}
@@ -15,6 +13,7 @@ use Rattle.hv_load.specs.Build.{parts_of}
 use Rattle.hv_load.specs.Directives.{image_of, machine_of}
 use Rattle.hv_load.specs.Pages.{free_at}
 use Rattle.hv_load.specs.Tower.{grown, level_machine, level_name, level_sample, levels_from, sample_words, words_if}
+use Rattle.hv_load.proofs.Naming.{levels_differ}
 use Rattle.hv_load.proofs.Samples.{pass_words}
 use Rattle.hv_towers.specs.Laid.{child_base, from_base}
 use Rattle.hv_towers.proofs.Passing.{named_kept, named_none, same_ok}
@@ -30,10 +29,7 @@ pub record Fresh (P : ℕ) (b : Building) (ms : List ℕ) : Type 0 where
   pub raised : Raised P b ms
   pub machines : b.machines ≡ length ms
   pub free : (g : ℕ) → end_base 0 ms ≤ g → g < P → free_at b.marks g ≡ true
-  pub unused : (k : ℕ) → length ms ≤ k → named (level_name (suc k)) b.names ≡ None
-
-names_differ : (n k : ℕ) → n < k → bytes_eq (level_name (suc n)) (level_name (suc k)) ≡ false
-names_differ n k lt = ap (λ (b : Bool). b && true) (ne_eqb (49 + n) (49 + k) (λ e. omega (arith, e, lt)))
+  pub unused : (k : ℕ) → length ms ≤ k → k < depth_limit → named (level_name (suc k)) b.names ≡ None
 
 pass_length : length (sample_words Pass) ≡ 4
 pass_length = ap (λ (r : Result (List ℕ) _). length (words_if r)) pass_words
@@ -64,7 +60,7 @@ module _ (P line m : ℕ) (few : P ≤ pages_limit) (some : 1 ≤ m) (b : Buildi
       let count : length ms < depth_limit = short in
       let room : end_base 0 ms + end_size P ms ≤ P = f.raised.room in
       let path : length f.raised.last.path ≡ length ms = ap length f.raised.path ∙ length-replicate (length ms) 1 in
-      machine_made b f.raised.last (end_base 0 ms) (end_size P ms) first_map f.raised.pages (level_name (suc (length ms))) (level_name (length ms)) m f.raised.is_known (omega (arith, machines, count)) (omega (arith, path, count)) (f.unused (length ms) (omega arith)) some fits (λ g low high. f.free g (omega (arith, low)) (omega (arith, high, room)))
+      machine_made b f.raised.last (end_base 0 ms) (end_size P ms) first_map f.raised.pages (level_name (suc (length ms))) (level_name (length ms)) m f.raised.is_known (omega (arith, machines, count)) (omega (arith, path, count)) (f.unused (length ms) (omega arith) short) some fits (λ g low high. f.free g (omega (arith, low)) (omega (arith, high, room)))
 
   image_is : (d : Building) × (image_of made (level_name (length ms)) record { base = 0; words = sample_words Pass } ≡ Ok d) × Filled made d (end_base 0 ms)
   image_is =
@@ -103,9 +99,9 @@ module _ (P line m : ℕ) (few : P ≤ pages_limit) (some : 1 ≤ m) (b : Buildi
           raised = next_raised;
           machines = filled.machines ∙ omega (arith, machines, longer);
           free = λ g low high. next_free g (subst (λ (k : ℕ). k ≤ g) (base_push 0 ms m) low) high;
-          unused = λ k low.
+          unused = λ k low high.
               ap (named (level_name (suc k))) filled.names
-              ∙ named_none (level_name (suc k)) b.names record { name = level_name (suc (length ms)); path = f.raised.last.path ++ 1 ∷ []; pages = m } (f.unused k (omega (arith, low, longer))) (names_differ (length ms) k (omega (arith, low, longer)));
+              ∙ named_none (level_name (suc k)) b.names record { name = level_name (suc (length ms)); path = f.raised.last.path ++ 1 ∷ []; pages = m } (f.unused k (omega (arith, low, longer)) high) (levels_differ (length ms) k (omega (arith, low, longer)) (omega (arith, high)));
         }
 
   -- one level more

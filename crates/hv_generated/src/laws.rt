@@ -2,7 +2,7 @@
 
 ghost use Rattle.hv_generated.specs.Fitting.{GeneratedBuildLaw, TowerFitLaw};
 
-/// A tower of at most eight machines that fits the storage is built: no part of it is refused.
+/// A tower that isn't too deep and fits the storage is built: no part of it is refused.
 pub fn towers_that_fit_are_built()
     ensures { TowerFitLaw }
 {}

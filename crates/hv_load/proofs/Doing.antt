@@ -1,5 +1,5 @@
 -- A directive is done by its parts, and a job by its directives.
-use Rattle.std.proofs.Common.{◌≡◌, ℕ, suc, ◌+◌, ◌-◌, ◌/◌, ◌<◌, ◌≤◌, Bool, true, false, List, [], ◌∷◌, ◌++◌, length, map, drop, get_or, Option, Some, None, Result, Ok, Err, refl, sym, ap, subst, ◌∙◌, arith, append_assoc}
+use Rattle.std.proofs.Common.{◌≡◌, ℕ, suc, ◌+◌, ◌-◌, ◌/◌, ◌<◌, ◌≤◌, Bool, true, false, List, [], ◌∷◌, ◌++◌, length, map, drop, get_or, Option, Some, None, Result, Ok, Err, sym, ap, subst, ◌∙◌, arith, append_assoc}
 use Rattle.std.proofs.lemmas.List.{drop_all}
 use Rattle.hv_asm.specs.declared.Image.{Image}
 use Rattle.hv_job.specs.declared.job.DebugLine.{DebugLine}
@@ -14,12 +14,12 @@ use Rattle.hv_load.specs.declared.parts.DirectiveEnd.TheVariants.{Fault, Memory}
 use Rattle.hv_load.specs.declared.parts.Mark.{Mark}
 use Rattle.hv_load.specs.declared.parts.Mark.TheVariants as mark
 use Rattle.hv_load.specs.declared.start.Start.{Start}
-use Rattle.hv_load.specs.Answers.{Leaves, Refuses}
+use Rattle.hv_load.specs.Answers.{Refuses}
 use Rattle.hv_load.specs.Building.{◌>>=◌, Building, Known, known}
-use Rattle.hv_load.specs.Build.{GivesStart, and_then, at_line, build_of, built_from, command_fault, command_of, done_of, end_of, fault_or, part_of, parts_of}
+use Rattle.hv_load.specs.Build.{GivesStart, and_then, at_line, built_from, command_fault, command_of, done_of, end_of, fault_or, part_of, parts_of}
 use Rattle.hv_load.specs.Directives.{image_in, image_of, words_in, words_of}
 use Rattle.hv_load.specs.Finding.{found_by}
-use Rattle.hv_load.specs.Pages.{each_from, free_page_of, marked, page_at, page_of, place_by, with_values}
+use Rattle.hv_load.specs.Pages.{each_from, marked, page_at, place_by, with_values}
 use Rattle.hv_load.specs.Tower.{grown, level_machine, level_sample, levels_from}
 use Rattle.hv_load.proofs.Lists.{left_at}
 

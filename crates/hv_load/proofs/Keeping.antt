@@ -1,7 +1,7 @@
 -- What each directive keeps of a job while it is built.
-use Rattle.std.proofs.Common.{◌≡◌, ◌⊎◌, ℕ, suc, ◌+◌, ◌*◌, ◌/◌, ◌<◌, ◌≤◌, Bool, true, false, cond, ◌||◌, ltb, List, [], ◌∷◌, ◌++◌, length, map, set, codes, Option, Some, None, Result, Ok, Err, refl, sym, ap, subst, ◌∙◌, arith, length-append}
+use Rattle.std.proofs.Common.{◌≡◌, ℕ, suc, ◌+◌, ◌*◌, ◌/◌, ◌<◌, ◌≤◌, Bool, true, false, cond, ◌||◌, List, [], ◌∷◌, ◌++◌, length, map, set, codes, Option, Some, None, Result, Ok, Err, refl, sym, ap, subst, ◌∙◌, arith, length-append}
 use Rattle.std.specs.Prelude.{IfOk, nat_lt, nat_le, is_some}
-use Rattle.std.specs.List.{All, range_with_len}
+use Rattle.std.specs.List.{All}
 use Rattle.std.proofs.Math.ListN.{length-set}
 use Rattle.std.proofs.lemmas.Bool.{ltb-true, ltb-false, leb-true, true≢false}
 use Rattle.std.proofs.lemmas.List.Sums.{sum_by-cons}
@@ -20,14 +20,14 @@ use Rattle.hv_map.specs.Item.{Item}
 use Rattle.hv_store.specs.Zeros.{zeros}
 use Rattle.std.specs.Option.{option_map}
 use Rattle.hv_load.specs.declared.start.Start.{Start}
-use Rattle.hv_load.specs.Ready.{EachWatched, IsReady, IsThere, IsWatched}
+use Rattle.hv_load.specs.Ready.{EachWatched, IsReady, IsThere}
 use Rattle.hv_samples.specs.declared.choice.Sample.{Sample}
 use Rattle.hv_load.specs.declared.ends.BuildEnd.{BuildEnd}
 use Rattle.hv_load.specs.declared.ends.BuildKind.{BuildKind}
 use Rattle.hv_load.specs.declared.ends.BuildKind.TheVariants as kind
 use Rattle.hv_load.specs.declared.parts.PlacedWatch.{PlacedWatch}
 use Rattle.hv_load.specs.declared.parts.Mark.TheVariants as mark
-use Rattle.hv_load.specs.Building.{◌>>=◌, Building, Known, inside_another, known, known_inside, named, nothing_built}
+use Rattle.hv_load.specs.Building.{◌>>=◌, Building, Known, known, known_inside, named, nothing_built}
 use Rattle.hv_load.specs.Build.{GivesStart, and_then, at_line, build_of, built_from, can_watch, command_fault, done_of, end_of, finish_of, part_of, parts_of, start_of, top_of, towered_of, unless_fault, unless_refused, watch_asked, watch_fault, with_top}
 use Rattle.hv_load.specs.Directives.{dump_in, dump_of, event_of, hart_of, image_in, image_of, is_outside, is_shared, machine_of, machines_limit, made_in, mapped_in, mapped_of, pages_along, started_in, started_of, watch_in, watch_of, with_made, words_in, words_of}
 use Rattle.hv_load.specs.Making.{block_word, can_take, table_word, with_machine, with_page, with_tables}

@@ -1,12 +1,11 @@
 -- A machine's table word, by its parent's chain.
-use Rattle.std.proofs.Common.{◌≡◌, ℕ, ◌-◌, ◌≤◌, List, length, map, take, Option, Some, None, Result, refl, sym, ap, ◌∙◌, arith}
+use Rattle.std.proofs.Common.{◌≡◌, ℕ, ◌-◌, List, length, Option, Some, None, Result, sym, ap, ◌∙◌, arith}
 use Rattle.std.proofs.lemmas.List.{length-map, length-take-le}
 use Rattle.hv_block.specs.declared.Block.{Block}
 use Rattle.hv_map.specs.Item.{Item}
-use Rattle.hv_map.specs.Chain.{child_of, map_along, pin_of}
+use Rattle.hv_map.specs.Chain.{map_along, pin_of}
 use Rattle.hv_map.specs.Compose.{reading, table_of}
-use Rattle.hv_map.specs.Found.{found_on, item_of}
-use Rattle.hv_map.specs.Words.{syllables}
+use Rattle.hv_map.specs.Found.{found_on}
 use Rattle.hv_map.specs.declared.found.Found.TheVariants.{Child}
 use Rattle.hv_map.proofs.Pins.{child_there}
 use Rattle.hv_map.proofs.Words.{machines_chained}

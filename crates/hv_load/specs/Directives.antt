@@ -1,7 +1,7 @@
 -- What each directive does, or why it is refused, in the order of its tests.
-use Rattle.std.specs.Prelude.{ℕ, ◌+◌, ◌*◌, ◌/◌, Bool, true, false, ◌&&◌, ◌||◌, nat_lt, nat_le, if◌then◌else◌, List, [], ◌∷◌, ◌++◌, length, map, is_some, Option, Result, Ok, Err, slice_set}
+use Rattle.std.specs.Prelude.{ℕ, ◌+◌, ◌*◌, ◌/◌, Bool, false, ◌||◌, nat_lt, nat_le, if◌then◌else◌, List, [], ◌∷◌, ◌++◌, length, map, is_some, Option, Result, Ok, Err, slice_set}
 use Rattle.hv_asm.specs.declared.Image.{Image}
-use Rattle.hv_cpu.specs.Regs.{Regs, reset_regs}
+use Rattle.hv_cpu.specs.Regs.{reset_regs}
 use Rattle.hv_store.specs.declared.access.Slot.{Slot}
 use Rattle.hv_map.specs.Apart.{table_pages}
 use Rattle.hv_map.specs.Chain.{map_of}

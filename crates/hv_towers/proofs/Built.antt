@@ -17,7 +17,7 @@ use Rattle.hv_load.specs.declared.ends.BuildKind.{BuildKind}
 use Rattle.hv_load.specs.declared.ends.BuildKind.TheVariants as kind
 use Rattle.hv_load.specs.declared.start.Start.{Start}
 use Rattle.hv_load.specs.Building.{Building, nothing_built}
-use Rattle.hv_load.specs.Build.{at_line, build_of, built_from, command_fault, ended, finished, start_of, towered_of, unless_fault, unless_refused, watch_asked, watch_fault}
+use Rattle.hv_load.specs.Build.{at_line, build_of, built_from, command_fault, end_of, finish_of, start_of, towered_of, unless_fault, unless_refused, watch_asked, watch_fault}
 use Rattle.hv_towers.specs.Laid.{from_base, LaidFrom}
 use Rattle.hv_towers.specs.Towers.{IsTopLine, TowerBuildLaw, with_tower}
 use Rattle.hv_towers.proofs.Bases.{base_slot, length-base}
@@ -64,7 +64,7 @@ unfaulted : (b : Building) (o : Option ℕ) (start : Start) → unless_fault b o
 unfaulted b None start is = same_ok (start_of b) start (unless_fault b None) refl is
 unfaulted b (Some line) start is = absurd (never_ok (line, kind.Watch) start is)
 
-unrefused : (b : Building) (o : Option (ℕ × BuildKind)) (start : Start) → unless_refused b o ≡ Ok start → finished b ≡ Ok start
+unrefused : (b : Building) (o : Option (ℕ × BuildKind)) (start : Start) → unless_refused b o ≡ Ok start → finish_of b ≡ Ok start
 unrefused b None start is = is
 unrefused b (Some end) start is = absurd (never_ok end start is)
 
@@ -73,7 +73,7 @@ unfolding build_of built_from
 whole job P depth top line parts start harts few some all is =
     let b : Building = nothing_built P job.harts in
     let first_line : Placed = record { line = line; what = directive.Tower depth top Pass } in
-    let lines = then_bound (built_from b (first_line ∷ parts)) (ended job.commands) start is in
+    let lines = then_bound (built_from b (first_line ∷ parts)) (end_of job.commands) start is in
     let first = then_bound (at_line line (towered_of b line depth top Pass)) (λ next. built_from next parts) lines.0 lines.1 in
     let tower : towered_of (nothing_built P job.harts) line depth top Pass ≡ Ok first.0 = line_bound line (towered_of b line depth top Pass) first.0 first.1 in
     let e : Empty P depth top first.0 = tower_stands P line depth top first.0 few some (subst (λ (h : ℕ). towered_of (nothing_built P h) line depth top Pass ≡ Ok first.0) harts tower) in

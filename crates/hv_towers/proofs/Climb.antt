@@ -14,7 +14,7 @@ use Rattle.hv_map.specs.Apart.{table_pages}
 use Rattle.hv_map.specs.Compose.{compose}
 use Rattle.hv_map.specs.Chain.{child_next, run_on, running}
 use Rattle.hv_map.specs.Words.{syllables}
-use Rattle.hv_nest.specs.Step.{Stepped, Worked, put_back, worked, step_on, step_of}
+use Rattle.hv_nest.specs.Step.{Stepped, Worked, put_back, act_step, step_on, step_of}
 use Rattle.hv_nest.specs.Watched.{begins}
 use Rattle.hv_nest.proofs.Follows.{follows_none}
 use Rattle.hv_nest.proofs.Reasons.{resumed_goes}
@@ -76,7 +76,7 @@ climbs_here m S j base n hart x xs p ps floor idle rest =
       storage = left_by S x.block p;
       regs = phase_regs (next_phase p);
       step = row_acts m S (from_base base n) j hart (phase_regs p) (sym (never_pending p)) idle
-          ∙ ap worked (monitor_acts S (from_base base n) base x.block hart (base_slot base n 0 (omega (arith, size)) ∙ ap (λ (g : ℕ). Some (open_at g)) zeroth) (base_slot base n 1 (omega (arith, size)) ∙ ap (λ (g : ℕ). Some (open_at g)) first) floor.program p idle);
+          ∙ ap act_step (monitor_acts S (from_base base n) base x.block hart (base_slot base n 0 (omega (arith, size)) ∙ ap (λ (g : ℕ). Some (open_at g)) zeroth) (base_slot base n 1 (omega (arith, size)) ∙ ap (λ (g : ℕ). Some (open_at g)) first) floor.program p idle);
       spares = left_spares S x xs p;
       phases = (
         refl,

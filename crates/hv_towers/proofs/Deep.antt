@@ -19,7 +19,7 @@ use Rattle.hv_block.specs.Block.{Held, block_of, with_fault, access_word}
 use Rattle.hv_map.specs.Compose.{compose}
 use Rattle.hv_map.proofs.Handed.{composed_level}
 use Rattle.hv_nest.specs.Asks.{Ask, asks, refusal_through, refusal_at, refusal_of, first_refused}
-use Rattle.hv_nest.specs.Step.{Stepped, Worked, Recalled, Faulted, Barred, Machine, idle, interrupted, worked, told, put_back, malformed, child_step, child_through, child_at, descended, step_on, step_of}
+use Rattle.hv_nest.specs.Step.{Stepped, Worked, Recalled, Faulted, Barred, Machine, idle, interrupt_of, act_step, tell_of, put_back, malformed, child_step, child_through, child_at, next_step, step_on, step_of}
 use Rattle.hv_nest.proofs.Refused.{first_refusal, act_refusal, act_refused}
 use Rattle.hv_nest.proofs.SimulatedAsks.{refused_level}
 
@@ -68,21 +68,21 @@ module _ (k : ℕ) where
       go None is = absurd (let f : None ≡ Some e = is in cc)
       go (Some q) is = refusal_deep F q e from is
 
-  worked_deep : (A : Acted) → ((e : Refusal) → act_refusal A ≡ Some e → k ≤ e.level) → PassesDeep k (worked A)
+  worked_deep : (A : Acted) → ((e : Refusal) → act_refusal A ≡ Some e → k ≤ e.level) → PassesDeep k (act_step A)
   worked_deep (Done S r) h = tt
   worked_deep (Refused e) h = inl (h e refl)
 
-  act_deep : (S : List ℕ) (F : List Slot) (hart : ℕ) (r : Regs) → ShutFrom k F → PassesDeep k (worked (act_of S F hart r))
+  act_deep : (S : List ℕ) (F : List Slot) (hart : ℕ) (r : Regs) → ShutFrom k F → PassesDeep k (act_step (act_of S F hart r))
   act_deep S F hart r from = worked_deep (act_of S F hart r) (λ e is. first_deep F (asks S F hart r) e from (sym (act_refused S F r hart) ∙ is))
 
-  interrupted_deep : (S : List ℕ) (j : ℕ) (r : Regs) (p : ℕ) → PassesDeep k (interrupted S j r p)
+  interrupted_deep : (S : List ℕ) (j : ℕ) (r : Regs) (p : ℕ) → PassesDeep k (interrupt_of S j r p)
   interrupted_deep S j r p = by (r.next == 0)
     where
       by : (t : Bool) → PassesDeep k (cond t (Worked S (take_trap_of r p true 0)) (Recalled j S (idle r)))
       by true = tt
       by false = tt
 
-  told_deep : (S : List ℕ) (j : ℕ) (r : Regs) (g : ℕ) (e : Refusal) → IsDeep k e → PassesDeep k (told S j r g e)
+  told_deep : (S : List ℕ) (j : ℕ) (r : Regs) (g : ℕ) (e : Refusal) → IsDeep k e → PassesDeep k (tell_of S j r g e)
   told_deep S j r g e h = by (e.level == j)
     where
       by : (t : Bool) → PassesDeep k (cond t (Faulted j e.cause e.address e.access (with_fault S g e.cause e.address (access_word e.access)) (idle r)) (Barred e))
@@ -113,11 +113,11 @@ module _ (k : ℕ) where
     at_deep None is = inr (refl, refl)
     at_deep (Some slot) is = way_deep slot.write (λ l c p w e. from r.next slot Write l c p w is e)
 
-  on_deep : (m : Option Machine) (S : List ℕ) (F : List Slot) (j hart : ℕ) (r : Regs) → ShutFrom k F → PassesDeep k (descended m S F j r) → (p : Option ℕ) → PassesDeep k (step_on m S F j hart r p)
+  on_deep : (m : Option Machine) (S : List ℕ) (F : List Slot) (j hart : ℕ) (r : Regs) → ShutFrom k F → PassesDeep k (next_step m S F j r) → (p : Option ℕ) → PassesDeep k (step_on m S F j hart r p)
   on_deep m S F j hart r from h (Some p) = interrupted_deep S j r p
   on_deep m S F j hart r from h None = by (r.next == 0)
     where
-      by : (t : Bool) → PassesDeep k (cond t (worked (act_of S F hart r)) (descended m S F j r))
+      by : (t : Bool) → PassesDeep k (cond t (act_step (act_of S F hart r)) (next_step m S F j r))
       by true = act_deep S F hart r from
       by false = h
 

@@ -1,7 +1,7 @@
 -- The registers that a step leaves fit a hart again, and name no page that the machine doesn't have.
 use Rattle.std.proofs.Common.{◌≡◌, ◌≢◌, ℕ, zero, suc, ◌+◌, ◌-◌, ◌*◌, ◌%◌, ◌^◌, ◌<◌, ◌≤◌, Bool, true, false, cond, List, length, Option, Some, None, Result, Ok, Err, refl, ap, ◌∙◌, sym, subst, arith, lit<, slice_get, bit_and, bit_or}
-use Rattle.std.specs.Prelude.{◌/◌, ◌==◌, ◌&&◌, ◌||◌, not, nat_lt}
-use Rattle.std.proofs.lemmas.Bool.{lt-ltb, eq-eqb, eqb-true, eqb-false, ltb-true, ne_eqb}
+use Rattle.std.specs.Prelude.{◌/◌, ◌==◌, ◌&&◌, ◌||◌, nat_lt}
+use Rattle.std.proofs.lemmas.Bool.{eqb-true, eqb-false, ltb-true}
 use Rattle.std.proofs.lemmas.Nat.{and_le_r}
 use Rattle.std.proofs.lemmas.Option.{slice_get_within}
 use Rattle.hv_word.specs.Words.{field_of, field_put}
@@ -34,10 +34,10 @@ use Rattle.hv_exec.specs.Memory.{bytes_of, lane_at, loading, storing}
 use Rattle.hv_exec.specs.System.{new_value, stored_csr, answered_csr, read_csr, csr_row, returned, entering}
 use Rattle.hv_exec.specs.Do.{row_answer, do_of}
 use Rattle.hv_exec.specs.Act.{Acted, Done, Refused, trapped, loaded, load_at, stored, store_at, entered, enter_page, enter_at, carried_out, decoded, fetched, fetch_at, act_of}
-use Rattle.hv_block.specs.Block.{Held, block_of, fits_hart, with_fault, access_word}
+use Rattle.hv_block.specs.Block.{Held, block_of, with_fault, access_word}
 use Rattle.hv_limits.specs.Limits.{depth_limit}
 use Rattle.hv_map.specs.Compose.{compose}
-use Rattle.hv_nest.specs.Step.{Stepped, Worked, Recalled, Faulted, Barred, Machine, idle, interrupted, worked, told, put_back, malformed, child_step, child_through, child_at, descended, step_on, step_of, host_step_of}
+use Rattle.hv_nest.specs.Step.{Stepped, Worked, Recalled, Faulted, Barred, Machine, idle, interrupt_of, act_step, tell_of, put_back, malformed, child_step, child_through, child_at, next_step, step_on, step_of, host_step_of}
 
 -- registers with another program counter, another general register, another next or another mstatus
 kept_pc : (r : Regs) (pc : ℕ) → pc % 4 ≡ 0 → FitsHart r → FitsHart (record r { pc = pc })
@@ -522,18 +522,18 @@ module _ (n : ℕ) (r : Regs) (f : Fit n r) where
   idle_fits : Fit n (idle r)
   idle_fits = record { kept = kept_next r 0 f.kept; next = (let h : r.next < n = f.next in omega (arith, h)) }
 
-  worked_fits : (A : Acted) → ActFits n A → StepFits n (worked A)
+  worked_fits : (A : Acted) → ActFits n A → StepFits n (act_step A)
   worked_fits (Done S q) g = g
   worked_fits (Refused e) g = tt
 
-  interrupted_fits : (S : List ℕ) (j p : ℕ) → StepFits n (interrupted S j r p)
+  interrupted_fits : (S : List ℕ) (j p : ℕ) → StepFits n (interrupt_of S j r p)
   interrupted_fits S j p = by (r.next == 0)
     where
       by : (t : Bool) → StepFits n (cond t (Worked S (take_trap_of r p true 0)) (Recalled j S (idle r)))
       by true = fit_trap n r p true 0 f
       by false = idle_fits
 
-  told_fits : (S : List ℕ) (j g : ℕ) (e : Refusal) → StepFits n (told S j r g e)
+  told_fits : (S : List ℕ) (j g : ℕ) (e : Refusal) → StepFits n (tell_of S j r g e)
   told_fits S j g e = by (e.level == j)
     where
       by : (t : Bool) → StepFits n (cond t (Faulted j e.cause e.address e.access (with_fault S g e.cause e.address (access_word e.access)) (idle r)) (Barred e))
@@ -563,11 +563,11 @@ on_fits : (m : Option Machine) (S : List ℕ) (F : List Slot) (j hart : ℕ) (r 
 on_fits m S F j hart r f (Some p) = interrupted_fits (length F) r f S j p
 on_fits m S F j hart r f None = by (r.next == 0)
   where
-    deeper : (o : Option Machine) → StepFits (length F) (descended o S F j r)
+    deeper : (o : Option Machine) → StepFits (length F) (next_step o S F j r)
     deeper None = tt
     deeper (Some d) = at_fits (length F) r f d S F j (slice_get F r.next)
 
-    by : (t : Bool) → StepFits (length F) (cond t (worked (act_of S F hart r)) (descended m S F j r))
+    by : (t : Bool) → StepFits (length F) (cond t (act_step (act_of S F hart r)) (next_step m S F j r))
     by true = worked_fits (length F) r f (act_of S F hart r) (act_fits S F hart r f)
     by false = deeper m
 
@@ -582,27 +582,3 @@ unfolding host_step_of
 host_fits S hart r f =
     subst (λ (n : ℕ). StepFits n (step_of depth_limit S (identity (page_count S)) 0 hart r)) (length-identity (page_count S))
     (step_fits depth_limit S (identity (page_count S)) 0 hart r (subst (λ (n : ℕ). Fit n r) (sym (length-identity (page_count S))) f))
-
--- and they are those of a block that fits
-either_mode : (m : ℕ) → m < 4 → m ≢ 2 → ((m == 0) || (m == 1) || (m == 3)) ≡ true
-either_mode zero h ne = refl
-either_mode (suc zero) h ne = refl
-either_mode (suc (suc zero)) h ne = absurd (ne refl)
-either_mode (suc (suc (suc zero))) h ne = refl
-either_mode (suc (suc (suc (suc m)))) h ne = absurd (omega (arith, h))
-
-pub kept_fits : (r : Regs) → FitsHart r → fits_hart r ≡ true
-kept_fits r k = λ i.
-    ((eq-eqb (r.pc % 4) 0 k.aligned) i)
-    && ((either_mode r.mode k.mode_fits k.mode_real) i)
-    && ((eq-eqb (bit_and r.mstatus mstatus_mask) r.mstatus k.mstatus) i)
-    && not ((ne_eqb (r.mstatus / 2048 % 4) 2 k.mpp) i)
-    && ((lt-ltb (r.mtvec % 4) 2 k.mtvec) i)
-    && ((eq-eqb (r.mepc % 4) 0 k.mepc) i)
-    && ((eq-eqb (bit_and r.medeleg medeleg_mask) r.medeleg k.medeleg) i)
-    && ((eq-eqb (bit_and r.mideleg mideleg_mask) r.mideleg k.mideleg) i)
-    && ((eq-eqb (bit_and r.mie interrupt_mask) r.mie k.mie) i)
-    && ((eq-eqb (bit_and r.mip interrupt_mask) r.mip k.mip) i)
-    && ((lt-ltb (r.stvec % 4) 2 k.stvec) i)
-    && ((eq-eqb (r.sepc % 4) 0 k.sepc) i)
-    && ((eq-eqb (bit_and r.satp satp_mask) r.satp k.satp) i)

@@ -1,9 +1,9 @@
 -- What a machine, an image and words change, where the pages of the machine are bare pages in their order.
-use Rattle.std.proofs.Common.{◌≡◌, ℕ, suc, ◌+◌, ◌*◌, ◌/◌, ◌%◌, ◌≤◌, Bool, true, false, cond, List, [], ◌∷◌, ◌++◌, length, set, Option, Some, None, Result, Ok, Err, refl, ap, ◌∙◌, sym, subst, arith, add-one, slice_get}
+use Rattle.std.proofs.Common.{◌≡◌, ℕ, suc, ◌+◌, ◌*◌, ◌/◌, ◌%◌, ◌<◌, ◌≤◌, Bool, true, false, cond, List, [], ◌∷◌, ◌++◌, length, set, Option, Some, None, Result, Ok, Err, refl, ap, ◌∙◌, sym, subst, arith, add-one, slice_get}
 use Rattle.std.specs.Prelude.{nat_lt, nat_le, is_some, ◌||◌}
 use Rattle.std.specs.List.{range_with_len}
 use Rattle.std.proofs.Math.Seq.{sets}
-use Rattle.std.proofs.lemmas.Bool.{ltb-false, true≢false}
+use Rattle.std.proofs.lemmas.Bool.{leb-false, ltb-false, true≢false}
 use Rattle.hv_asm.specs.declared.Image.{Image}
 use Rattle.hv_store.specs.declared.access.Slot.{Slot}
 use Rattle.hv_map.specs.Apart.{table_pages}
@@ -112,6 +112,7 @@ pub record Made (b n : Building) (name : List ℕ) (k : Known) (m base at : ℕ)
   pub harts : n.harts ≡ b.harts
   pub watches : n.watches ≡ b.watches
   pub new : named name b.names ≡ None
+  pub deep : length k.path < depth_limit
   pub inside : at + m ≤ k.pages
 
 none_of : (o : Option Known) → is_some o ≡ false → o ≡ None
@@ -156,5 +157,6 @@ module _ (b n : Building) (name parent : List ℕ) (m at : ℕ) (k : Known) (bas
         harts = refl;
         watches = refl;
         new = none_of (named name b.names) new.0;
+        deep = leb-false depth_limit (length k.path) deep.0;
         inside = fits_in (nat_le k.pages 1) (nat_lt k.pages (2 + table_pages m)) (nat_lt k.pages (at + m)) at m k.pages (λ e. ltb-false k.pages (at + m) e) inner.0;
       }

@@ -9,6 +9,7 @@ use Rattle.hv_store.specs.declared.access.Refusal.{Refusal}
 use Rattle.hv_store.specs.declared.access.Slot.{Slot}
 use Rattle.hv_store.specs.declared.access.Way.TheVariants.{Open, Shut}
 use Rattle.hv_store.specs.Access.{identity}
+use Rattle.hv_block.proofs.Fits.{hart_fits}
 use Rattle.hv_block.specs.Block.{regs_at, with_fault, access_word, IsOther}
 use Rattle.hv_map.specs.Item.{Item}
 use Rattle.hv_map.specs.Chain.{running, running_path}
@@ -39,7 +40,7 @@ use Rattle.hv_towers.proofs.Spares.{IsSize, Spares, fault_spares, fault_regs, ph
 use Rattle.hv_towers.proofs.Climb.{climbs}
 use Rattle.hv_towers.proofs.Reach.{top_step, reaches, puts_phases}
 use Rattle.hv_towers.proofs.Deep.{PassesDeep, ShutFrom, step_deep}
-use Rattle.hv_towers.proofs.Fits.{Fit, StepFits, host_fits, kept_fits}
+use Rattle.hv_towers.proofs.Fits.{Fit, StepFits, host_fits}
 use Rattle.hv_towers.proofs.Sizes.{EachFew}
 use Rattle.hv_towers.proofs.Zones.{Zone, laid_numbered, top_ends, zone_below, zone_blocks, each_spared, floors_now}
 use Rattle.hv_towers.proofs.Foot.{last_spared}
@@ -274,7 +275,7 @@ module _ (A : List ℕ) (x : Item) (xs : List Item) (ground : Ground A (x ∷ xs
         let own : Regs = regs_along S (x ∷ xs) r in
         let size : page_count T ≡ top_pages (page_count A) (x ∷ xs) = page_count-seen S top ∙ length-base (top_base 0 (x ∷ xs)) (top_pages (page_count A) (x ∷ xs)) in
         let fit : Fit (page_count T) own = subst (λ (n : ℕ). Fit n own) (sym size) stand.fit in
-        let reach = reaches (depth_limit - length (x ∷ xs)) S 0 0 (page_count A) 0 r (x ∷ xs) ps floors stand.phases all (kept_fits own stand.fit.kept) stand.fit.next in
+        let reach = reaches (depth_limit - length (x ∷ xs)) S 0 0 (page_count A) 0 r (x ∷ xs) ps floors stand.phases all (hart_fits own stand.fit.kept) stand.fit.next in
         let level : deep 0 (x ∷ xs) ≡ length (x ∷ xs) = deep_is 0 (x ∷ xs) ∙ (let e : 0 + length (x ∷ xs) ≡ length (x ∷ xs) = omega arith in e) in
         let down : host_step_of S 0 r ≡ lifted S 0 (x ∷ xs) r (step_of (depth_limit - length (x ∷ xs)) S top (length (x ∷ xs)) 0 own) =
         host_is ∙ reach.step ∙ ap (λ (n : ℕ). lifted S 0 (x ∷ xs) r (step_of (depth_limit - length (x ∷ xs)) S top n 0 own)) level

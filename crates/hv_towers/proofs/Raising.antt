@@ -1,8 +1,8 @@
 -- A tower is raised level by level.
-use Rattle.std.proofs.Common.{◌≡◌, ℕ, suc, ◌+◌, ◌*◌, ◌<◌, ◌≤◌, inl, inr, Bool, true, false, ◌&&◌, eqb, List, [], ◌∷◌, ◌++◌, length, replicate, codes, Some, None, Ok, refl, ap, ◌∙◌, sym, subst, arith, lit<, get_or, length-append}
+use Rattle.std.proofs.Common.{◌≡◌, ℕ, suc, ◌+◌, ◌*◌, ◌<◌, ◌≤◌, inl, inr, List, [], ◌∷◌, ◌++◌, length, replicate, codes, Some, None, Ok, refl, ap, ◌∙◌, sym, subst, arith, lit<, get_or, length-append}
 use Rattle.std.specs.List.{range_with_len}
 use Rattle.std.proofs.Math.Seq.{sets, length-sets}
-use Rattle.std.proofs.lemmas.List.{replicate_more}
+use Rattle.std.proofs.lemmas.List.{length-replicate, replicate_more}
 use Rattle.std.proofs.lemmas.Slice.Eq.{bytes_eq-Decides}
 use Rattle.hv_limits.specs.Limits.{pages_limit}
 use Rattle.hv_word.specs.Storage.{page_count, word_at}
@@ -16,6 +16,7 @@ use Rattle.hv_load.specs.Building.{Building, Known, known, named}
 use Rattle.hv_load.specs.Build.{part_of, parts_of}
 use Rattle.hv_load.specs.Making.{with_machine}
 use Rattle.hv_load.specs.Tower.{level_machine, level_name, level_sample, sample_words, words_if}
+use Rattle.hv_load.proofs.Naming.{never_top}
 use Rattle.hv_load.proofs.Samples.{pass_words}
 use Rattle.hv_towers.specs.Laid.{child_base, from_base}
 use Rattle.hv_towers.proofs.Lines.{Made, Wrote, image_is, machine_is}
@@ -158,10 +159,6 @@ pub record Raised (P : ℕ) (b : Building) (ms : List ℕ) : Type 0 where
 pages_are : (S : List ℕ) (P : ℕ) → length S ≡ 1024 * P → page_count S ≡ P
 pages_are S P e = omega (arith, e)
 
-and_false : (b : Bool) → (b && false) ≡ false
-and_false true = refl
-and_false false = refl
-
 module _ (P line m : ℕ) (few : P ≤ pages_limit) (some : 1 ≤ m) (b n : Building) (ms : List ℕ) (rest : List Placed) (r : Raised P b ms) where
   first_map : map_of b.storage r.last.path ≡ Some (from_base (end_base 0 ms) (end_size P ms))
   first_map = ap (map_of b.storage) r.path ∙ map_of_is b.storage P ms (pages_are b.storage P r.size) few r.storeys
@@ -202,6 +199,7 @@ module _ (P line m : ℕ) (few : P ≤ pages_limit) (some : 1 ≤ m) (b n : Buil
           let longer : length (ms ++ m ∷ []) ≡ suc (length ms) = length_push ms m in
           let h : 2 + table_pages m + m ≤ end_size P ms = fits in
           let i : end_base 0 ms + end_size P ms ≤ P = r.room in
+          let levels : length r.last.path ≡ length ms = ap length r.path ∙ length-replicate (length ms) 1 in
           record {
             size = ap length stored ∙ storey_size b.storage P (end_base 0 ms) (end_size P ms) m r.size r.room fits some;
             last = new;
@@ -216,7 +214,7 @@ module _ (P line m : ℕ) (few : P ≤ pages_limit) (some : 1 ≤ m) (b n : Buil
             pages = sym (size_push P ms m);
             no_top =
                 ap (named (codes "top")) names
-                ∙ named_none (codes "top") b.names new r.no_top (and_false (eqb (49 + length ms) 111));
+                ∙ named_none (codes "top") b.names new r.no_top (never_top (length ms) (omega (arith, levels, made.deep)));
             storeys =
                 subst (λ (S : List ℕ). Storeys S 0 P (ms ++ m ∷ [])) (sym stored)
                 (storeys_push V 0 P ms m

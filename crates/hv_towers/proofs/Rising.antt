@@ -9,7 +9,7 @@ use Rattle.hv_samples.specs.declared.choice.Sample.TheVariants.{Pass}
 use Rattle.hv_load.specs.declared.ends.BuildKind.{BuildKind}
 use Rattle.hv_load.specs.declared.ends.BuildKind.TheVariants as kind
 use Rattle.hv_load.specs.Building.{◌>>=◌, Building, Known, known, named, nothing_built, root_with}
-use Rattle.hv_load.specs.Build.{parts_of, topped, towered_of, with_top}
+use Rattle.hv_load.specs.Build.{parts_of, top_of, towered_of, with_top}
 use Rattle.hv_load.specs.Tower.{grown, level_name, levels_from, tower_of}
 use Rattle.hv_towers.proofs.Passing.{same_ok, bound, passed, named_last}
 use Rattle.hv_towers.proofs.Storeys.{Storeys, end_base, end_size}
@@ -100,11 +100,11 @@ pub tower_stands : (P line depth top : ℕ) (n : Building) → P ≤ pages_limit
 unfolding end_size
 tower_stands P line depth top n few some is =
     let b : Building = nothing_built P 1 in
-    let first = passed (b.towered || is_some (named (codes "top") b.names)) (parts_of b (tower_of depth top Pass line) >>= λ next. topped next depth) kind.Repeat n is in
-    let parts = bound (parts_of b (tower_of depth top Pass line)) (λ next. topped next depth) n first.1 in
+    let first = passed (b.towered || is_some (named (codes "top") b.names)) (parts_of b (tower_of depth top Pass line) >>= λ next. top_of next depth) kind.Repeat n is in
+    let parts = bound (parts_of b (tower_of depth top Pass line)) (λ next. top_of next depth) n first.1 in
     named_top parts.0 (rise P line top few some depth 0 b parts.0 [] refl (at_first P) parts.1) parts.2
   where
-    named_top : (m : Building) → Risen P top depth [] m → topped m depth ≡ Ok n → Empty P depth top n
+    named_top : (m : Building) → Risen P top depth [] m → top_of m depth ≡ Ok n → Empty P depth top n
     named_top m risen is =
         let r : Raised P m risen.ns = risen.raised in
         let levels : length risen.ns ≡ depth = omega (arith, risen.longer) in

@@ -1,5 +1,5 @@
--- How a tower of machines lies in the bare storage. The pages of each machine are bare pages in their order: its program on
--- page 0, the block of its child on page 1, the table of its child from page 2 on, and then the pages of its child.
+-- How a tower of machines lies in the bare storage. The pages of each machine are bare pages in their order: its program
+-- on page 0, the block of its child on page 1, the table of its child from page 2 on, and then the pages of its child.
 use Rattle.std.specs.Prelude.{◌≡◌, ℕ, ◌+◌, ◌*◌, ◌<◌, ◌≤◌, true, List, [], ◌∷◌, length, map, replicate, Some}
 use Rattle.std.specs.List.{range_with_len}
 use Rattle.hv_word.specs.Storage.{page_count, word_at}
@@ -30,7 +30,8 @@ pub record HasPass (S : List ℕ) (page : ℕ) : Type 0 where
   pub vmenter : word_at S page 2 ≡ 0x0002800b
   pub jal : word_at S page 3 ≡ 0xffdff06f
 
--- a monitor at level j with n pages from bare page `base` on, and its child x; it may have more pages than it needs for that
+-- a monitor at level j with n pages from bare page `base` on, and its child x; it may have more pages than it needs for
+-- that
 pub record LaidAt (S : List ℕ) (j base n : ℕ) (x : Item) : Type 0 where
   pub syllable : x.syllable ≡ 1
   pub block : x.block ≡ base + 1

@@ -29,8 +29,8 @@ abbrev pub with_tower : Job → (pages depth top line : ℕ) → List Placed →
 with_tower job pages depth top line parts =
     record job { pages = pages; lines = record { line = line; what = directive.Tower depth top Pass } ∷ parts }
 
--- The machines lie as a tower does, the top sees the storage that the bare machine has at the start of the same lines, the
--- one hart is as after a reset, and each watch is one of the top.
+-- The machines lie as a tower does, the top sees the storage that the bare machine has at the start of the same lines,
+-- the one hart is as after a reset, and each watch is one of the top.
 pub record TowerBuilt (depth top : ℕ) (parts : List Placed) (start alone : Start) : Type 0 where
   pub items : List Item
   pub laid : Laid depth top start.store alone.store items

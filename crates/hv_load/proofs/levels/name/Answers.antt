@@ -1,4 +1,4 @@
-use Rattle.std.proofs.Common.{ℕ, ◌≡◌, ◌-◌, ◌∙◌, drop, take, replicate, length, ap, sym, arith}
+use Rattle.std.proofs.Common.{ℕ, ◌≡◌, ◌-◌, ◌∙◌, drop, replicate, length, ap, sym, arith}
 use Rattle.std.proofs.Math.ListN.{length-set}
 use Rattle.hv_load.proofs.Naming.{front_more, rest_more}
 use Rattle.hv_load.proofs.levels.name.Goals as goal

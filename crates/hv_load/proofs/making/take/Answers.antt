@@ -1,4 +1,4 @@
-use Rattle.std.proofs.Common.{◌<◌, ◌∙◌, arith, length, sym, rules}
+use Rattle.std.proofs.Common.{◌<◌, ◌∙◌, arith, length, rules}
 use Rattle.std.specs.Prelude.{slice_index}
 use Rattle.std.proofs.Math.ListN.{length-set}
 use Rattle.hv_load.proofs.Taking.{took_more, free_read}

@@ -1,5 +1,5 @@
 -- What is told of the watches of a job that was played.
-use Rattle.std.proofs.Common.{◌≡◌, ℕ, zero, suc, ◌+◌, ◌≤◌, ◌^◌, Bool, true, false, cond, Option, Some, None, List, [], ◌∷◌, ◌++◌, refl, sym, ap, ◌∙◌, subst, arith}
+use Rattle.std.proofs.Common.{◌≡◌, ℕ, zero, suc, ◌+◌, ◌≤◌, Bool, true, false, cond, Option, Some, None, List, [], ◌∷◌, ◌++◌, refl, sym, ap, ◌∙◌, subst, arith}
 use Rattle.std.specs.Prelude.{flat_map, replicate}
 use Rattle.std.specs.List.{All}
 use Rattle.std.proofs.lemmas.List.Elements.{All-nil, All-cons, All-append}
@@ -13,7 +13,7 @@ use Rattle.hv_nest.specs.State.{State}
 use Rattle.hv_nest.specs.Move.{Move, StepOf, LinesOf, state_after}
 use Rattle.hv_nest.specs.Watched.{Tally, no_tally, is_counted, beside, tally_after, tally_of, foot, last_block}
 use Rattle.hv_run.specs.Record.{WatchOf, schedule, watch_record, watch_records, record_of}
-use Rattle.hv_limits.specs.Limits.{kept_limit}
+use Rattle.hv_limits.specs.Limits.{kept_limit, steps_limit}
 use Rattle.hv_run.specs.Run.{steps_in}
 use Rattle.hv_run.specs.Stands.{EachWatch, IsPinned, IsWatchable, CanWatch}
 use Rattle.hv_twin.proofs.Told.{told_never_fall, told_have_lines}
@@ -68,7 +68,7 @@ steps_scheduled (Lines hart mask ∷ events) =
     ∙ ap (λ (k : ℕ). 0 + k) (steps_scheduled events)
     ∙ sym (sum_by-cons steps_of (Lines hart mask) events)
 
-module _ (start : State) (moves : List Move) (few : steps_in moves ≤ 10 ^ 9) where
+module _ (start : State) (moves : List Move) (few : steps_in moves ≤ steps_limit) where
   row_one : (w : WatchOf) → IsWatchable start w → All (IsRow start) (watch_records w start moves (pin_of start.storage w.path))
   row_one w can = at (pin_of start.storage w.path) refl can.machine
     where

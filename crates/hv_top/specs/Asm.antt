@@ -1,5 +1,5 @@
 -- The words of an assembly text, whose first address is 0.
-use Rattle.std.specs.Prelude.{ℕ, List, Result, Ok, Err, codes}
+use Rattle.std.specs.Prelude.{ℕ, List, Result, Ok, Err}
 use Rattle.std.specs.List.{flat_map}
 use Rattle.hv_text.specs.Text.{line, hex8}
 use Rattle.hv_asm.specs.Assembly.{asm_of}

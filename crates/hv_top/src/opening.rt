@@ -1,6 +1,6 @@
 //! An input that is opened: its text is read as a job, and the job is built.
 
-ghost use Rattle.std.specs.Prelude.{◌≡◌, ◌≤◌, length, IfOk};
+ghost use Rattle.std.specs.Prelude.{◌≤◌, length, IfOk};
 ghost use Rattle.hv_limits.specs.Limits.{input_limit};
 ghost use Rattle.hv_job.specs.IsJob.{IsJob};
 ghost use Rattle.hv_top.specs.Opening.{IsOpening, IsStarting};

@@ -1,4 +1,4 @@
-use Rattle.std.proofs.Common.{List, ◌<◌, IfSome, subst}
+use Rattle.std.proofs.Common.{ℕ, List, ◌<◌, IfSome, subst}
 use Rattle.hv_word.specs.Storage.{page_count}
 use Rattle.hv_debug.specs.Answers.{path_named}
 use Rattle.hv_debug.proofs.Lines.{own_chain}

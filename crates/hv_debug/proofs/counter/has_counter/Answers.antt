@@ -1,4 +1,4 @@
-use Rattle.std.proofs.Common.{List, ◌<◌, IfSome, sym, subst}
+use Rattle.std.proofs.Common.{ℕ, List, ◌<◌, IfSome, sym, subst}
 use Rattle.hv_word.specs.Storage.{page_count}
 use Rattle.hv_map.proofs.Machines.{pinned_own}
 use Rattle.hv_debug.proofs.counter.has_counter.Goals as goal

@@ -1,5 +1,6 @@
-use Rattle.std.proofs.Common.{◌≡◌, ℕ, ◌<◌, ◌≤◌, ◌^◌, List, length, sym, ap, ◌∙◌, subst}
+use Rattle.std.proofs.Common.{◌≡◌, ℕ, ◌<◌, ◌≤◌, List, length, sym, ap, ◌∙◌, subst}
 use Rattle.std.specs.List.{All}
+use Rattle.hv_limits.specs.Limits.{steps_limit}
 use Rattle.hv_irq.specs.declared.Event.{Event}
 use Rattle.hv_irq.specs.Events.{hart_of, total_of}
 use Rattle.hv_load.specs.Ready.{EachWatched}
@@ -61,8 +62,8 @@ returns-clause-rows c =
     let steps : steps_in (schedule c.events.result.now) ≡ total_of c.args.job.now.recording =
     steps_scheduled c.events.result.now ∙ ap (λ (events : List Event). total_of events) c.events.ensures.events
     in
-    let few : steps_in (schedule c.events.result.now) ≤ 10 ^ 9 =
-    subst (λ (n : ℕ). n ≤ 10 ^ 9) (sym steps) c.events.ensures.schedule.steps
+    let few : steps_in (schedule c.events.result.now) ≤ steps_limit =
+    subst (λ (n : ℕ). n ≤ steps_limit) (sym steps) c.events.ensures.schedule.steps
     in
     subst (λ (st : State). All (IsRow st) c.in_ok-record.record.watches) c.new-plain.ensures
     (subst (λ (t : PlayRecord). All (IsRow c.new-plain.result) t.watches) (sym c.in_ok-record.ensures.record)

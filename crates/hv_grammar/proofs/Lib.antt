@@ -3,7 +3,6 @@ pub mod Calls
 pub mod Deeds
 pub mod Formed
 pub mod Inside
-mod Kinds
 pub mod Late
 pub mod Means
 pub mod Room
@@ -13,3 +12,4 @@ pub mod Telling
 pub mod Tests
 pub mod Through
 pub mod Ways
+mod Worded

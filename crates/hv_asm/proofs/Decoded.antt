@@ -9,7 +9,7 @@ use Rattle.hv_isa.specs.declared.Op.{Op}
 use Rattle.hv_isa.specs.Table.{decode_of, row_of, spell}
 use Rattle.hv_isa.proofs.Decoding.{decode_of-row}
 use Rattle.hv_asm.specs.Amounts.{amount_of, distance, within, within_signed, word_of}
-use Rattle.hv_asm.specs.Forms.{form_of, immediate_of, HasRegisters, word_with}
+use Rattle.hv_asm.specs.Forms.{form_of, immediate_of, UsesRegisters, word_with}
 use Rattle.hv_asm.specs.Meaning.{signed_of}
 use Rattle.hv_asm.specs.Names.{number_in, numbered, register_of, used}
 use Rattle.hv_asm.specs.declared.AsmKind.{AsmKind}
@@ -51,12 +51,12 @@ register_below text n is =
 nat_ok : (x y : ℕ) → (let r : Result ℕ AsmKind = Ok x in r) ≡ Ok y → x ≡ y
 nat_ok x y is = cc
 
-pub decoded : (op : Op) (f : Form) (rd rs1 rs2 w : ℕ) (a : Amount) → form_of (row_of op) ≡ f → HasRegisters f rd rs1 rs2 → word_with op rd rs1 rs2 a ≡ Ok w → (imm : ℕ) × (immediate_of f a ≡ Ok imm) × (decode_of w ≡ Some (instr op rd rs1 rs2 imm))
+pub decoded : (op : Op) (f : Form) (rd rs1 rs2 w : ℕ) (a : Amount) → form_of (row_of op) ≡ f → UsesRegisters f rd rs1 rs2 → word_with op rd rs1 rs2 a ≡ Ok w → (imm : ℕ) × (immediate_of f a ≡ Ok imm) × (decode_of w ≡ Some (instr op rd rs1 rs2 imm))
 unfolding word_with
 decoded op f rd rs1 rs2 w a form regs is =
     let s = then_ok (immediate_of (form_of (row_of op)) a) _ w is in
     let e : spell (row_of op) (instr op rd rs1 rs2 s.0) ≡ w = nat_ok _ w s.2 in
-    let fits = fits_row op rd rs1 rs2 s.0 a (row_of op) (subst (λ (f : Form). HasRegisters f rd rs1 rs2) (sym form) regs) s.1 in
+    let fits = fits_row op rd rs1 rs2 s.0 a (row_of op) (subst (λ (f : Form). UsesRegisters f rd rs1 rs2) (sym form) regs) s.1 in
     (s.0, ap (λ (f : Form). immediate_of f a) (sym form) ∙ s.1, decode_of-row (instr op rd rs1 rs2 s.0) w (record { fits = fits; word = sym e }))
 
 -- words as signed numbers

@@ -6,7 +6,7 @@ use Rattle.hv_isa.specs.declared.Op.{Op}
 use Rattle.hv_isa.specs.declared.Instr.{Instr}
 use Rattle.hv_isa.specs.Table.{Shape, U, J, B, I, S, R, Shift, Csr, Pair, One, Whole, Fits, IsImmediate, row_of, spell}
 use Rattle.hv_asm.specs.Amounts.{within, within_signed, is_even, word_of}
-use Rattle.hv_asm.specs.Forms.{form_of, immediate_of, HasRegisters, ranged, word_with, ◌>>=◌}
+use Rattle.hv_asm.specs.Forms.{form_of, immediate_of, UsesRegisters, ranged, word_with, ◌>>=◌}
 use Rattle.hv_asm.specs.declared.AsmKind.{AsmKind}
 use Rattle.hv_asm.specs.declared.amounts.Amount.{Amount}
 use Rattle.hv_asm.specs.declared.amounts.Amount.TheVariants.{Plus, Minus}
@@ -51,25 +51,25 @@ module _ (op : Op) (rd rs1 rs2 imm : ℕ) (a : Amount) where
   fits_bare : (rd ≡ 0) × (rs1 ≡ 0) × (rs2 ≡ 0) → (let r : Result ℕ AsmKind = Ok 0 in r) ≡ Ok imm → (rd < 32) × (rs1 < 32) × (rs2 ≡ 0) × IsImmediate 12 imm
   fits_bare regs is = let e : imm ≡ 0 = cc in (omega arith, omega arith, regs.2, rw e refl)
 
-  fits_i : (opcode : ℕ) → HasRegisters (cond (nat_eq opcode 0x13) Immediate (cond (nat_eq opcode 0x0f) Bare Load)) rd rs1 rs2 → immediate_of (cond (nat_eq opcode 0x13) Immediate (cond (nat_eq opcode 0x0f) Bare Load)) a ≡ Ok imm → (rd < 32) × (rs1 < 32) × (rs2 ≡ 0) × IsImmediate 12 imm
+  fits_i : (opcode : ℕ) → UsesRegisters (cond (nat_eq opcode 0x13) Immediate (cond (nat_eq opcode 0x0f) Bare Load)) rd rs1 rs2 → immediate_of (cond (nat_eq opcode 0x13) Immediate (cond (nat_eq opcode 0x0f) Bare Load)) a ≡ Ok imm → (rd < 32) × (rs1 < 32) × (rs2 ≡ 0) × IsImmediate 12 imm
   unfolding immediate_of
   fits_i opcode regs is =
-      elim (nat_eq opcode 0x13) as (λ b. HasRegisters (cond b Immediate (cond (nat_eq opcode 0x0f) Bare Load)) rd rs1 rs2 → immediate_of (cond b Immediate (cond (nat_eq opcode 0x0f) Bare Load)) a ≡ Ok imm → (rd < 32) × (rs1 < 32) × (rs2 ≡ 0) × IsImmediate 12 imm) [
+      elim (nat_eq opcode 0x13) as (λ b. UsesRegisters (cond b Immediate (cond (nat_eq opcode 0x0f) Bare Load)) rd rs1 rs2 → immediate_of (cond b Immediate (cond (nat_eq opcode 0x0f) Bare Load)) a ≡ Ok imm → (rd < 32) × (rs1 < 32) × (rs2 ≡ 0) × IsImmediate 12 imm) [
         | true ↦ λ regs is. fits_immediate regs is
         | false ↦ λ regs is.
-            elim (nat_eq opcode 0x0f) as (λ b. HasRegisters (cond b Bare Load) rd rs1 rs2 → immediate_of (cond b Bare Load) a ≡ Ok imm → (rd < 32) × (rs1 < 32) × (rs2 ≡ 0) × IsImmediate 12 imm)
+            elim (nat_eq opcode 0x0f) as (λ b. UsesRegisters (cond b Bare Load) rd rs1 rs2 → immediate_of (cond b Bare Load) a ≡ Ok imm → (rd < 32) × (rs1 < 32) × (rs2 ≡ 0) × IsImmediate 12 imm)
             [ true ↦ λ regs is. fits_bare regs is | false ↦ λ regs is. fits_immediate regs is ] regs is
       ] regs is
 
-  fits_csr : (f3 : ℕ) → HasRegisters (cond (nat_lt f3 4) CsrRegister CsrNumber) rd rs1 rs2 → immediate_of (cond (nat_lt f3 4) CsrRegister CsrNumber) a ≡ Ok imm → (rd < 32) × (rs1 < 32) × (rs2 ≡ 0) × (imm < 4096)
+  fits_csr : (f3 : ℕ) → UsesRegisters (cond (nat_lt f3 4) CsrRegister CsrNumber) rd rs1 rs2 → immediate_of (cond (nat_lt f3 4) CsrRegister CsrNumber) a ≡ Ok imm → (rd < 32) × (rs1 < 32) × (rs2 ≡ 0) × (imm < 4096)
   unfolding immediate_of
   fits_csr f3 regs is =
       let one : (rd < 32) × (rs1 < 32) × (rs2 ≡ 0) → ranged (within 4096 a) (word_of a) ≡ Ok imm → (rd < 32) × (rs1 < 32) × (rs2 ≡ 0) × (imm < 4096) =
       λ regs is. let r = ranged_ok _ _ _ is in (regs.0, regs.1, regs.2, subst (λ n. n < 4096) r.1 (below 4096 a (omega arith) (omega arith) r.0))
-      in elim (nat_lt f3 4) as (λ b. HasRegisters (cond b CsrRegister CsrNumber) rd rs1 rs2 → immediate_of (cond b CsrRegister CsrNumber) a ≡ Ok imm → (rd < 32) × (rs1 < 32) × (rs2 ≡ 0) × (imm < 4096))
+      in elim (nat_lt f3 4) as (λ b. UsesRegisters (cond b CsrRegister CsrNumber) rd rs1 rs2 → immediate_of (cond b CsrRegister CsrNumber) a ≡ Ok imm → (rd < 32) × (rs1 < 32) × (rs2 ≡ 0) × (imm < 4096))
       [ true ↦ λ regs is. one regs is | false ↦ λ regs is. one regs is ] regs is
 
-  pub fits_row : (s : Shape) → HasRegisters (form_of s) rd rs1 rs2 → immediate_of (form_of s) a ≡ Ok imm → Fits s instr
+  pub fits_row : (s : Shape) → UsesRegisters (form_of s) rd rs1 rs2 → immediate_of (form_of s) a ≡ Ok imm → Fits s instr
   unfolding immediate_of
   fits_row (U o) regs is =
       let r = ranged_ok _ _ _ is in

@@ -10,7 +10,7 @@ use Rattle.hv_lex.specs.Tokens.{is_letter, is_digit}
 use Rattle.hv_lex.specs.declared.Kind.{Kind}
 use Rattle.hv_lex.specs.declared.Kind.TheVariants.{Name, Number, Comma, Colon, Open, Close}
 use Rattle.hv_lex.specs.declared.Token.{Token}
-use Rattle.hv_lex.proofs.Parts.{Part, Said, Blank, CommaPart, OpenPart, ClosePart, Reads, Apart, IsLine, Shows, name_said, written, placed, line_tokens, line_shows, line_unbroken}
+use Rattle.hv_lex.proofs.Parts.{Part, Said, Blank, CommaPart, OpenPart, ClosePart, Reads, Apart, AreParts, Shows, name_said, written, part_tokens, line_tokens, line_shows, line_unbroken}
 use Rattle.hv_asm.specs.Amounts.{amount_of, within, within_signed, is_even, word_of}
 use Rattle.hv_asm.specs.Assembly.{asm_of}
 use Rattle.hv_asm.specs.Forms.{◌>>=◌, form_of, ranged, immediate_of, word_with}
@@ -115,10 +115,10 @@ unfolding csr_number_word
 csr_number_is line op x y z rd rs1 w a b p q r s e = rw (p, q, r, s) e
 
 -- the line of a row, from what stands behind its name
-row_line : (op : Op) (ps : List Part) (operands : List Operand) (f : Form) (base w : ℕ) → Apart ps → IsLine ps → reading_of (written (Said (name_of op) Name ∷ ps)) (placed 0 (Said (name_of op) Name ∷ ps)) ≡ record { label = None; deed = Work (operation_of (text_of (written (Said (name_of op) Name ∷ ps)) (record { start = 0; end = 0 + length (name_of op); kind = Name }))) operands } → form_of (row_of op) ≡ f → base + 4 ≤ 2 ^ 32 → ((find : Find) → Shows (written (Said (name_of op) Name ∷ ps)) 0 (Said (name_of op) Name ∷ ps) → form_word find base (written (Said (name_of op) Name ∷ ps)) op f operands ≡ Ok w) → asm_of (written (Said (name_of op) Name ∷ ps)) base ≡ Ok (w ∷ [])
+row_line : (op : Op) (ps : List Part) (operands : List Operand) (f : Form) (base w : ℕ) → Apart ps → AreParts ps → reading_of (written (Said (name_of op) Name ∷ ps)) (part_tokens 0 (Said (name_of op) Name ∷ ps)) ≡ record { label = None; deed = Work (operation_of (text_of (written (Said (name_of op) Name ∷ ps)) (record { start = 0; end = 0 + length (name_of op); kind = Name }))) operands } → form_of (row_of op) ≡ f → base + 4 ≤ 2 ^ 32 → ((find : Find) → Shows (written (Said (name_of op) Name ∷ ps)) 0 (Said (name_of op) Name ∷ ps) → form_word find base (written (Said (name_of op) Name ∷ ps)) op f operands ≡ Ok w) → asm_of (written (Said (name_of op) Name ∷ ps)) base ≡ Ok (w ∷ [])
 row_line op ps operands f base w apart parts reads is room word =
     let all = Said (name_of op) Name ∷ ps in
-    let line : IsLine all = (op_reads op, apart, parts) in
+    let line : AreParts all = (op_reads op, apart, parts) in
     line_word (written all) (does.Row op) operands base w (line_unbroken all line) (row_read op ps operands line reads) refl room
     (λ find. row_words find base (written all) op operands f w is (word find (line_shows all)))
 
@@ -213,7 +213,7 @@ two op a b k = Said (name_of op) Name ∷ behind_two a b k
 abbrev two_operands : Op → List ℕ → List ℕ → Kind → List Operand
 two_operands op a b k = operand_at (0 + length (name_of op) + 1) a Name ∷ operand_at (second op a) b k ∷ []
 
-two_read : (op : Op) (a b : List ℕ) (k : Kind) → IsPlain k → reading_of (written (two op a b k)) (placed 0 (two op a b k)) ≡ record { label = None; deed = Work (operation_of (text_of (written (two op a b k)) (record { start = 0; end = 0 + length (name_of op); kind = Name }))) (two_operands op a b k) }
+two_read : (op : Op) (a b : List ℕ) (k : Kind) → IsPlain k → reading_of (written (two op a b k)) (part_tokens 0 (two op a b k)) ≡ record { label = None; deed = Work (operation_of (text_of (written (two op a b k)) (record { start = 0; end = 0 + length (name_of op); kind = Name }))) (two_operands op a b k) }
 unfolding reading_of deed_of operands_of groups_of operands_from operand_of
 two_read op a b Name p = refl
 two_read op a b (Number z) p = refl
@@ -278,7 +278,7 @@ based_operands op a n z b =
     operand_at (0 + length (name_of op) + 1) a Name
     ∷ operand.Based (amount_of z) (record { start = second op a + length n + 1; end = second op a + length n + 1 + length b; kind = Name }) ∷ []
 
-based_read : (op : Op) (a n : List ℕ) (z : ℤ) (b : List ℕ) → reading_of (written (offset op a n z b)) (placed 0 (offset op a n z b)) ≡ record { label = None; deed = Work (operation_of (text_of (written (offset op a n z b)) (record { start = 0; end = 0 + length (name_of op); kind = Name }))) (based_operands op a n z b) }
+based_read : (op : Op) (a n : List ℕ) (z : ℤ) (b : List ℕ) → reading_of (written (offset op a n z b)) (part_tokens 0 (offset op a n z b)) ≡ record { label = None; deed = Work (operation_of (text_of (written (offset op a n z b)) (record { start = 0; end = 0 + length (name_of op); kind = Name }))) (based_operands op a n z b) }
 unfolding reading_of deed_of operands_of groups_of operands_from operand_of
 based_read op a n z b = refl
 
@@ -320,7 +320,7 @@ store_line op a n z b rs2 imm rs1 base is ra rn said fits rb room =
 abbrev pub behind_one : List ℕ → List Part
 behind_one a = Blank ∷ Said a Name ∷ []
 
-one_read : (op : Op) (a : List ℕ) → reading_of (written (Said (name_of op) Name ∷ behind_one a)) (placed 0 (Said (name_of op) Name ∷ behind_one a)) ≡ record { label = None; deed = Work (operation_of (text_of (written (Said (name_of op) Name ∷ behind_one a)) (record { start = 0; end = 0 + length (name_of op); kind = Name }))) (operand_at (0 + length (name_of op) + 1) a Name ∷ []) }
+one_read : (op : Op) (a : List ℕ) → reading_of (written (Said (name_of op) Name ∷ behind_one a)) (part_tokens 0 (Said (name_of op) Name ∷ behind_one a)) ≡ record { label = None; deed = Work (operation_of (text_of (written (Said (name_of op) Name ∷ behind_one a)) (record { start = 0; end = 0 + length (name_of op); kind = Name }))) (operand_at (0 + length (name_of op) + 1) a Name ∷ []) }
 unfolding reading_of deed_of operands_of groups_of operands_from operand_of
 one_read op a = refl
 
@@ -336,7 +336,7 @@ source_line op a rs1 base is ra room =
     (λ find s. source_is line op _ rs1 _ (register_shown line a _ rs1 s.1.0 ra.is) (word_is op form.Source 0 rs1 0 0 (Plus 0) is refl))
 
 -- a name alone
-bare_read : (op : Op) → reading_of (written (Said (name_of op) Name ∷ [])) (placed 0 (Said (name_of op) Name ∷ [])) ≡ record { label = None; deed = Work (operation_of (text_of (written (Said (name_of op) Name ∷ [])) (record { start = 0; end = 0 + length (name_of op); kind = Name }))) [] }
+bare_read : (op : Op) → reading_of (written (Said (name_of op) Name ∷ [])) (part_tokens 0 (Said (name_of op) Name ∷ [])) ≡ record { label = None; deed = Work (operation_of (text_of (written (Said (name_of op) Name ∷ [])) (record { start = 0; end = 0 + length (name_of op); kind = Name }))) [] }
 unfolding reading_of deed_of operands_of
 bare_read op = refl
 
@@ -365,11 +365,11 @@ word_named : Reads (codes ".word") Name
 unfolding is_letter is_digit
 word_named = name_said (codes ".word") refl
 
-word_read : (text : List ℕ) (w : ℕ) → reading_of (written (word_parts text w)) (placed 0 (word_parts text w)) ≡ record { label = None; deed = Work (operation_of (text_of (written (word_parts text w)) (record { start = 0; end = 0 + length (codes ".word"); kind = Name }))) (operand.Number (Plus w) ∷ []) }
+word_read : (text : List ℕ) (w : ℕ) → reading_of (written (word_parts text w)) (part_tokens 0 (word_parts text w)) ≡ record { label = None; deed = Work (operation_of (text_of (written (word_parts text w)) (record { start = 0; end = 0 + length (codes ".word"); kind = Name }))) (operand.Number (Plus w) ∷ []) }
 unfolding reading_of deed_of operands_of groups_of operands_from operand_of
 word_read text w = refl
 
-word_line_read : (text : List ℕ) (w : ℕ) → IsLine (word_parts text w) → read_of (written (word_parts text w)) ≡ record { label = None; deed = Work (Some does.Words) (operand.Number (Plus w) ∷ []) }
+word_line_read : (text : List ℕ) (w : ℕ) → AreParts (word_parts text w) → read_of (written (word_parts text w)) ≡ record { label = None; deed = Work (Some does.Words) (operand.Number (Plus w) ∷ []) }
 unfolding read_of
 word_line_read text w line =
     let all = word_parts text w in
@@ -380,6 +380,6 @@ word_line_read text w line =
 pub word_line : (text : List ℕ) (w base : ℕ) → Reads text (Number (pos w)) → w < 2 ^ 32 → base + 4 ≤ 2 ^ 32 → asm_of (written (word_parts text w)) base ≡ Ok (w ∷ [])
 word_line text w base reads small room =
     let all = word_parts text w in
-    let line : IsLine all = (word_named, tt, (reads, tt, tt)) in
+    let line : AreParts all = (word_named, tt, (reads, tt, tt)) in
     line_word (written all) does.Words (operand.Number (Plus w) ∷ []) base w (line_unbroken all line) (word_line_read text w line) refl room
     (λ find. words_is find base (written all) _ ∙ value_words_is find (written all) w small)

@@ -8,7 +8,7 @@ use Rattle.hv_isa.specs.Table.{decode_of, row_of}
 use Rattle.hv_lex.specs.declared.Token.{Token}
 use Rattle.hv_lex.specs.declared.Kind.TheVariants.{Number}
 use Rattle.hv_asm.specs.Amounts.{amount_of, within, within_signed, word_of}
-use Rattle.hv_asm.specs.Forms.{HasRegisters, form_of, immediate_of, ranged, word_with}
+use Rattle.hv_asm.specs.Forms.{UsesRegisters, form_of, immediate_of, ranged, word_with}
 use Rattle.hv_asm.specs.Meaning.{Alone, IsInstruction, IsNumber, IsOperand, signed_of}
 use Rattle.hv_asm.specs.Roles.{Role, Rd, Rs1, Rs2, Immediate, Upper, Based, Target, Control, Small, plain, rest_of, roles_of}
 use Rattle.hv_asm.specs.Rows.{bare_word, branch_word, csr, csr_number_word, csr_register_word, form_word, immediate_word, jump_word, load_word, number, plain_jump_word, register, register_at, registers_word, row_word, small, source_word, sources_word, store_word, target, upper_word, zero_word}
@@ -411,7 +411,7 @@ module _ (find : List ℕ → Option Place) (at : ℕ) (line : List ℕ) (groups
   csr_write_means _ w z e = cc
 
   -- instructions and short forms without operands
-  bare_short_means : (op : Op) (f : Form) (rs1 : ℕ) (os : List Operand) (w : ℕ) → form_of (row_of op) ≡ f → HasRegisters f 0 rs1 0 → ((imm : ℕ) → immediate_of f (Plus 0) ≡ Ok imm → imm ≡ 0) → Given os → bare_short op rs1 os ≡ Ok w → Means [] (instr op 0 rs1 0 0) w
+  bare_short_means : (op : Op) (f : Form) (rs1 : ℕ) (os : List Operand) (w : ℕ) → form_of (row_of op) ≡ f → UsesRegisters f 0 rs1 0 → ((imm : ℕ) → immediate_of f (Plus 0) ≡ Ok imm → imm ≡ 0) → Given os → bare_short op rs1 os ≡ Ok w → Means [] (instr op 0 rs1 0 0) w
   unfolding bare_short
   bare_short_means op f rs1 [] w is regs none z e =
       let d = decoded op f 0 rs1 0 w (Plus 0) is regs e in

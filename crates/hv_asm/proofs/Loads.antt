@@ -7,7 +7,7 @@ use Rattle.hv_isa.specs.declared.Op.TheVariants as op
 use Rattle.hv_lex.specs.declared.Token.{Token}
 use Rattle.hv_asm.specs.Amounts.{amount_of, word_of}
 use Rattle.hv_asm.specs.Forms.{immediate_of, word_with}
-use Rattle.hv_asm.specs.Meaning.{Alone, Contributes, IsAddress, IsLoad, IsNumber, IsRegister, IsWord, One, Two, signed_of}
+use Rattle.hv_asm.specs.Meaning.{Alone, Contributes, IsAddress, IsLoad, IsNumber, IsRegister, IsWordValue, One, Two, signed_of}
 use Rattle.hv_asm.specs.Rows.{address, number, register}
 use Rattle.hv_asm.specs.Words.{high_part, is_defined, is_value, la_words, li_words, low_part, pair_words, space_count, value, value_at, value_words, values_of, zeros_of}
 use Rattle.hv_asm.specs.declared.AsmKind.{AsmKind}
@@ -93,9 +93,9 @@ alone_to P Q f [] is = is
 alone_to P Q f (t ∷ []) is = f t is
 alone_to P Q f (t ∷ s ∷ ss) is = is
 
-word_field : (line : List ℕ) (o : Operand) (a : Amount) (v : ℕ) (g : List Token) → number o ≡ Ok a → value a ≡ Ok v → AreTokens o g → Alone (λ t. IsWord t v) g
+word_field : (line : List ℕ) (o : Operand) (a : Amount) (v : ℕ) (g : List Token) → number o ≡ Ok a → value a ≡ Ok v → AreTokens o g → Alone (λ t. IsWordValue t v) g
 word_field line o a v g is fits are =
-    alone_to (λ t. (z : ℤ) × IsNumber t z × IsWordZ z v) (λ t. IsWord t v)
+    alone_to (λ t. (z : ℤ) × IsNumber t z × IsWordZ z v) (λ t. IsWordValue t v)
     (λ t h. (h.2.0, elim h.2.1 as (λ s. IsNumber t (pos v) ⊎ IsNumber t (signed_of v)) [ inl e ↦ inl (subst (λ (z : ℤ). IsNumber t z) e h.1) | inr e ↦ inr (subst (λ (z : ℤ). IsNumber t z) e h.1) ]))
     g (number_field line o a (λ z. IsWordZ z v) g are is (λ z e. value_is z v (ap value (sym e) ∙ fits)))
 
@@ -108,7 +108,7 @@ module _ (find : List ℕ → Option Place) (at : ℕ) (line : List ℕ) where
       let u = then_ok (value t.0) _ ws t.2 in (
         s.0,
         u.0,
-        two_is a n (λ r. IsRegister line r s.0) (λ t. IsWord t u.0) (λ g are. register_field line a s.0 g are s.1) (λ g are. word_field line n t.0 u.0 g t.1 u.1 are) groups z,
+        two_is a n (λ r. IsRegister line r s.0) (λ t. IsWordValue t u.0) (λ g are. register_field line a s.0 g are s.1) (λ g are. word_field line n t.0 u.0 g t.1 u.1 are) groups z,
         pair_loads s.0 u.0 ws (register_small line a s.0 s.1) (value_below t.0 u.0 u.1) u.2,
       )
   li_means _ groups ws z e = cc
@@ -125,27 +125,27 @@ module _ (find : List ℕ → Option Place) (at : ℕ) (line : List ℕ) where
       )
   la_means _ groups ws z e = cc
 
-  value_field : (o : Operand) (v : ℕ) (g : List Token) → value_at find line o ≡ Ok v → AreTokens o g → Alone (λ t. IsAddress (addresses find) line t v ⊎ IsWord t v) g
+  value_field : (o : Operand) (v : ℕ) (g : List Token) → value_at find line o ≡ Ok v → AreTokens o g → Alone (λ t. IsAddress (addresses find) line t v ⊎ IsWordValue t v) g
   unfolding value_at number
   value_field (operand.Name t) v g e are =
       let s = then_ok (address find line t) _ v e in
       let same : s.0 % 2 ^ 32 ≡ v = cc in
-      alone_to (λ t. IsAddress (addresses find) line t (s.0 % 2 ^ 32)) (λ t. IsAddress (addresses find) line t v ⊎ IsWord t v)
+      alone_to (λ t. IsAddress (addresses find) line t (s.0 % 2 ^ 32)) (λ t. IsAddress (addresses find) line t v ⊎ IsWordValue t v)
       (λ t h. inl (subst (λ (v : ℕ). IsAddress (addresses find) line t v) same h)) g (address_field find line t s.0 g are s.1)
   value_field (operand.Number a) v g e are =
-      alone_to (λ t. IsWord t v) (λ t. IsAddress (addresses find) line t v ⊎ IsWord t v) (λ t h. inr h) g (word_field line (operand.Number a) a v g refl e are)
+      alone_to (λ t. IsWordValue t v) (λ t. IsAddress (addresses find) line t v ⊎ IsWordValue t v) (λ t h. inr h) g (word_field line (operand.Number a) a v g refl e are)
   value_field (operand.Based a t) v g e are = cc
 
-  values_mean : (os : List Operand) (groups : List (List Token)) (ws : List ℕ) → AllZip AreTokens os groups → values_of find line os ≡ Ok ws → AllZip (λ g v. Alone (λ t. IsAddress (addresses find) line t v ⊎ IsWord t v) g) groups ws
+  values_mean : (os : List Operand) (groups : List (List Token)) (ws : List ℕ) → AllZip AreTokens os groups → values_of find line os ≡ Ok ws → AllZip (λ g v. Alone (λ t. IsAddress (addresses find) line t v ⊎ IsWordValue t v) g) groups ws
   unfolding values_of
-  values_mean [] [] ws z e = let same : [] ≡ ws = ok_is [] ws e in subst (λ (ws : List ℕ). AllZip (λ g v. Alone (λ t. IsAddress (addresses find) line t v ⊎ IsWord t v) g) [] ws) same tt
+  values_mean [] [] ws z e = let same : [] ≡ ws = ok_is [] ws e in subst (λ (ws : List ℕ). AllZip (λ g v. Alone (λ t. IsAddress (addresses find) line t v ⊎ IsWordValue t v) g) [] ws) same tt
   values_mean [] (g ∷ gs) ws z e = absurd z
   values_mean (o ∷ os) [] ws z e = absurd z
   values_mean (o ∷ os) (g ∷ gs) ws z e =
       let s = then_ok (value_at find line o) _ ws e in
       let t = then_ok (values_of find line os) _ ws s.2 in
       let same : s.0 ∷ t.0 ≡ ws = ok_is _ ws t.2 in
-      subst (λ (ws : List ℕ). AllZip (λ g v. Alone (λ t. IsAddress (addresses find) line t v ⊎ IsWord t v) g) (g ∷ gs) ws) same
+      subst (λ (ws : List ℕ). AllZip (λ g v. Alone (λ t. IsAddress (addresses find) line t v ⊎ IsWordValue t v) g) (g ∷ gs) ws) same
       (value_field o s.0 g s.1 z.0, values_mean os gs t.0 z.1 t.1)
 
   values_some : (os : List Operand) (ws : List ℕ) → nat_eq (length os) 0 ≡ false → values_of find line os ≡ Ok ws → 0 < length ws

@@ -10,7 +10,7 @@ use Rattle.hv_lex.specs.Lines.{lines_of}
 use Rattle.hv_lex.specs.Tokens.{tokens_at, lexed_at, pieces_of}
 use Rattle.hv_lex.specs.declared.Kind.{Kind}
 use Rattle.hv_lex.specs.declared.Kind.TheVariants.{Name, Number, Comma, Colon, Open, Close}
-use Rattle.hv_lex.proofs.Parts.{Part, Said, Blank, CommaPart, Reads, IsLine, Unbroken, written, placed, line_tokens, line_shows, one_line}
+use Rattle.hv_lex.proofs.Parts.{Part, Said, Blank, CommaPart, Reads, AreParts, Unbroken, written, part_tokens, line_tokens, line_shows, one_line}
 use Rattle.hv_asm.specs.Amounts.{amount_of}
 use Rattle.hv_asm.specs.Assembly.{asm_of, words_from, line_words, place_of, has_room, and_then}
 use Rattle.hv_asm.specs.Forms.{◌>>=◌, form_of, immediate_of, word_with}
@@ -145,7 +145,7 @@ abbrev pub three_operands : Op → List ℕ → List ℕ → Kind → List ℕ �
 three_operands op a b j c k =
     operand_at (0 + length (name_of op) + 1) a Name ∷ operand_at (second op a) b j ∷ operand_at (second op a + length b + 1 + 1) c k ∷ []
 
-pub three_read : (op : Op) (a b : List ℕ) (j : Kind) (c : List ℕ) (k : Kind) → IsPlain j → IsPlain k → reading_of (written (three op a b j c k)) (placed 0 (three op a b j c k)) ≡ record { label = None; deed = Work (operation_of (text_of (written (three op a b j c k)) (record { start = 0; end = 0 + length (name_of op); kind = Name }))) (three_operands op a b j c k) }
+pub three_read : (op : Op) (a b : List ℕ) (j : Kind) (c : List ℕ) (k : Kind) → IsPlain j → IsPlain k → reading_of (written (three op a b j c k)) (part_tokens 0 (three op a b j c k)) ≡ record { label = None; deed = Work (operation_of (text_of (written (three op a b j c k)) (record { start = 0; end = 0 + length (name_of op); kind = Name }))) (three_operands op a b j c k) }
 unfolding reading_of deed_of operands_of groups_of operands_from operand_of
 three_read op a b Name c Name p q = refl
 three_read op a b Name c (Number y) p q = refl
@@ -165,7 +165,7 @@ three_read op a b Open c k p q = absurd p
 three_read op a b Close c k p q = absurd p
 
 -- a line that begins with the name of a row
-pub row_read : (op : Op) (ps : List Part) (operands : List Operand) → IsLine (Said (name_of op) Name ∷ ps) → reading_of (written (Said (name_of op) Name ∷ ps)) (placed 0 (Said (name_of op) Name ∷ ps)) ≡ record { label = None; deed = Work (operation_of (text_of (written (Said (name_of op) Name ∷ ps)) (record { start = 0; end = 0 + length (name_of op); kind = Name }))) operands } → read_of (written (Said (name_of op) Name ∷ ps)) ≡ record { label = None; deed = Work (Some (Row op)) operands }
+pub row_read : (op : Op) (ps : List Part) (operands : List Operand) → AreParts (Said (name_of op) Name ∷ ps) → reading_of (written (Said (name_of op) Name ∷ ps)) (part_tokens 0 (Said (name_of op) Name ∷ ps)) ≡ record { label = None; deed = Work (operation_of (text_of (written (Said (name_of op) Name ∷ ps)) (record { start = 0; end = 0 + length (name_of op); kind = Name }))) operands } → read_of (written (Said (name_of op) Name ∷ ps)) ≡ record { label = None; deed = Work (Some (Row op)) operands }
 unfolding read_of
 row_read op ps operands line reads =
     let all = Said (name_of op) Name ∷ ps in

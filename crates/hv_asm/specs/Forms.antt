@@ -50,20 +50,20 @@ immediate_of Source a = Ok 0
 immediate_of Bare a = Ok 0
 
 -- the registers that a form has are registers, and the others are zero
-abbrev pub HasRegisters : Form → (rd rs1 rs2 : ℕ) → Type 0
-HasRegisters Registers rd rs1 rs2 = (rd < 32) × (rs1 < 32) × (rs2 < 32)
-HasRegisters Immediate rd rs1 rs2 = (rd < 32) × (rs1 < 32) × (rs2 ≡ 0)
-HasRegisters ShiftAmount rd rs1 rs2 = (rd < 32) × (rs1 < 32) × (rs2 ≡ 0)
-HasRegisters Load rd rs1 rs2 = (rd < 32) × (rs1 < 32) × (rs2 ≡ 0)
-HasRegisters Store rd rs1 rs2 = (rd ≡ 0) × (rs1 < 32) × (rs2 < 32)
-HasRegisters Branch rd rs1 rs2 = (rd ≡ 0) × (rs1 < 32) × (rs2 < 32)
-HasRegisters Jump rd rs1 rs2 = (rd < 32) × (rs1 ≡ 0) × (rs2 ≡ 0)
-HasRegisters Upper rd rs1 rs2 = (rd < 32) × (rs1 ≡ 0) × (rs2 ≡ 0)
-HasRegisters CsrRegister rd rs1 rs2 = (rd < 32) × (rs1 < 32) × (rs2 ≡ 0)
-HasRegisters CsrNumber rd rs1 rs2 = (rd < 32) × (rs1 < 32) × (rs2 ≡ 0)
-HasRegisters Sources rd rs1 rs2 = (rd ≡ 0) × (rs1 < 32) × (rs2 < 32)
-HasRegisters Source rd rs1 rs2 = (rd ≡ 0) × (rs1 < 32) × (rs2 ≡ 0)
-HasRegisters Bare rd rs1 rs2 = (rd ≡ 0) × (rs1 ≡ 0) × (rs2 ≡ 0)
+abbrev pub UsesRegisters : Form → (rd rs1 rs2 : ℕ) → Type 0
+UsesRegisters Registers rd rs1 rs2 = (rd < 32) × (rs1 < 32) × (rs2 < 32)
+UsesRegisters Immediate rd rs1 rs2 = (rd < 32) × (rs1 < 32) × (rs2 ≡ 0)
+UsesRegisters ShiftAmount rd rs1 rs2 = (rd < 32) × (rs1 < 32) × (rs2 ≡ 0)
+UsesRegisters Load rd rs1 rs2 = (rd < 32) × (rs1 < 32) × (rs2 ≡ 0)
+UsesRegisters Store rd rs1 rs2 = (rd ≡ 0) × (rs1 < 32) × (rs2 < 32)
+UsesRegisters Branch rd rs1 rs2 = (rd ≡ 0) × (rs1 < 32) × (rs2 < 32)
+UsesRegisters Jump rd rs1 rs2 = (rd < 32) × (rs1 ≡ 0) × (rs2 ≡ 0)
+UsesRegisters Upper rd rs1 rs2 = (rd < 32) × (rs1 ≡ 0) × (rs2 ≡ 0)
+UsesRegisters CsrRegister rd rs1 rs2 = (rd < 32) × (rs1 < 32) × (rs2 ≡ 0)
+UsesRegisters CsrNumber rd rs1 rs2 = (rd < 32) × (rs1 < 32) × (rs2 ≡ 0)
+UsesRegisters Sources rd rs1 rs2 = (rd ≡ 0) × (rs1 < 32) × (rs2 < 32)
+UsesRegisters Source rd rs1 rs2 = (rd ≡ 0) × (rs1 < 32) × (rs2 ≡ 0)
+UsesRegisters Bare rd rs1 rs2 = (rd ≡ 0) × (rs1 ≡ 0) × (rs2 ≡ 0)
 
 -- the word of an instruction with this number
 unfoldable pub word_with : Op → (rd rs1 rs2 : ℕ) → Amount → Result ℕ AsmKind

@@ -43,8 +43,8 @@ IsTarget labels at line t offset =
     ((to : ℕ) × IsLabel labels line t to × (signed_of offset ≡ pos to -ℤ pos at)) ⊎ IsNumber t (signed_of offset)
 
 -- a word that is a number from -2 ^ 31 to 2 ^ 32 - 1
-abbrev pub IsWord : Token → ℕ → Type 0
-IsWord t v = (v < 2 ^ 32) × (IsNumber t (pos v) ⊎ IsNumber t (signed_of v))
+abbrev pub IsWordValue : Token → ℕ → Type 0
+IsWordValue t v = (v < 2 ^ 32) × (IsNumber t (pos v) ⊎ IsNumber t (signed_of v))
 
 -- a word that is a label's address
 abbrev pub IsAddress : (labels : Addresses) → List ℕ → Token → ℕ → Type 0
@@ -126,10 +126,10 @@ Contributes labels at line Csrr operands words =
 Contributes labels at line Csrw operands words =
     IsInstruction labels at line (Control ∷ Rs1 ∷ []) (plain op.Csrrw) operands words
 Contributes labels at line Li operands words =
-    (rd v : ℕ) × Two (λ r. IsRegister line r rd) (λ t. IsWord t v) operands × IsLoad rd v words
+    (rd v : ℕ) × Two (λ r. IsRegister line r rd) (λ t. IsWordValue t v) operands × IsLoad rd v words
 Contributes labels at line La operands words =
     (rd v : ℕ) × Two (λ r. IsRegister line r rd) (λ t. IsAddress labels line t v) operands × IsLoad rd v words
 Contributes labels at line Words operands words =
-    (0 < length words) × AllZip (λ a v. Alone (λ t. IsAddress labels line t v ⊎ IsWord t v) a) operands words
+    (0 < length words) × AllZip (λ a v. Alone (λ t. IsAddress labels line t v ⊎ IsWordValue t v) a) operands words
 Contributes labels at line Space operands words =
     (n : ℕ) × One (λ t. IsNumber t (pos (4 * n))) operands × (n ≤ 2 ^ 18) × (words ≡ replicate n 0)

@@ -5,7 +5,7 @@ ghost use Rattle.std.specs.List.{list_all};
 ghost use Rattle.hv_isa.specs.Table.{row_of};
 ghost use Rattle.hv_asm.specs.Emitted.{Appends};
 ghost use Rattle.std.specs.Prelude.{replicate};
-ghost use Rattle.hv_asm.specs.Forms.{HasRegisters, form_of};
+ghost use Rattle.hv_asm.specs.Forms.{UsesRegisters, form_of};
 ghost use Rattle.hv_asm.specs.Labels.{place_in};
 ghost use Rattle.hv_asm.specs.Words.{alone, zeros_of, bare_short as bare_short_of, csr_read_word as csr_read_word_of, csr_write_word as csr_write_word_of, high_part as high_part_of, is_defined as is_defined_of, is_value as is_value_of, la_words as la_words_of, li_words as li_words_of, low_part as low_part_of, move_word as move_word_of, one_word as one_word_of, pair_words as pair_words_of, space_count as space_count_of, value as value_of, value_at as value_at_of, value_words as value_words_of, values_of, words_with as words_with_of};
 
@@ -148,7 +148,7 @@ fn la_words(labels: &Labels, line: &[u8], operands: &[Operand]) -> Result<[u32; 
 #[tactic(auto, unfolding(crate::specs::Words::bare_short))]
 fn bare_short(form: Form, op: Op, rs1: u8, operands: &[Operand]) -> Result<u32, AsmKind>
     requires same { form ≡ form_of (row_of op) }
-    requires registers { HasRegisters form 0 rs1 0 }
+    requires registers { UsesRegisters form 0 rs1 0 }
     ensures { result ≡ bare_short_of op rs1 operands.now }
 {
     if !operands.is_empty() {

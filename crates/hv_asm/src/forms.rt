@@ -2,7 +2,7 @@
 
 ghost use Rattle.std.specs.Prelude.{◌≡◌};
 ghost use Rattle.hv_isa.specs.Table.{row_of};
-ghost use Rattle.hv_asm.specs.Forms.{HasRegisters, form_of, immediate_of, word_with};
+ghost use Rattle.hv_asm.specs.Forms.{UsesRegisters, form_of, immediate_of, word_with};
 
 use crate::AsmKind;
 use crate::amounts::{Amount, is_even, within, within_signed, word};
@@ -105,7 +105,7 @@ pub(crate) fn instruction(
     amount: Amount,
 ) -> Result<u32, AsmKind>
     requires form { form ≡ form_of (row_of op) }
-    requires registers { HasRegisters form rd rs1 rs2 }
+    requires registers { UsesRegisters form rd rs1 rs2 }
     ensures { result ≡ word_with op rd rs1 rs2 amount }
 {
     let imm = immediate(form, amount)?;

@@ -6,7 +6,7 @@ use Rattle.std.specs.Prelude.{nat_lt, nat_le, ◌==◌, ◌||◌}
 use Rattle.std.proofs.Math.Dec.{lit<}
 use Rattle.hv_word.specs.Storage.{word_at}
 use Rattle.hv_cpu.specs.Regs.{Regs}
-use Rattle.hv_block.specs.Block.{regs_at, pages_at, table_at, version_at, fits_hart, fits_pages, is_block, Held, held_at, block_of}
+use Rattle.hv_block.specs.Block.{regs_at, pages_at, table_at, version_at, fits_hart, fits_pages, is_block, Contents, contents_at, block_of}
 
 module _ (S T : List ℕ) (g y : ℕ) (same : (w : ℕ) → w < 1024 → word_at S g w ≡ word_at T y w) where
   -- the registers that a page says depend on its words alone
@@ -68,32 +68,32 @@ module _ (S T : List ℕ) (g y : ℕ) (same : (w : ℕ) → w < 1024 → word_at
   pub block_alike : block_of S g ≡ block_of T y
   block_alike = λ i. made (regs_alike i) ((same 65 (lit< tt)) i) ((same 66 (lit< tt)) i) ((same 67 (lit< tt)) i)
     where
-      made : Regs → ℕ → ℕ → ℕ → Option Held
+      made : Regs → ℕ → ℕ → ℕ → Option Contents
       made r n t v =
           cond (fits_hart r && (nat_lt 0 n && nat_le n (2 ^ 20) && nat_lt t (2 ^ 20) && nat_lt r.next n && ((v == 0) || (v == 2))))
           (Some record { regs = r; pages = n; table = t; version = v })
           None
 
 -- a block is what its page says, and is well formed
-pub block_holds : (S : List ℕ) (g : ℕ) (held : Held) → block_of S g ≡ Some held → (is_block S g ≡ true) × (held_at S g ≡ held)
-block_holds S g held e = cond_some (is_block S g) (held_at S g) held e
+pub block_holds : (S : List ℕ) (g : ℕ) (contents : Contents) → block_of S g ≡ Some contents → (is_block S g ≡ true) × (contents_at S g ≡ contents)
+block_holds S g contents e = cond_some (is_block S g) (contents_at S g) contents e
 
 -- the sizes that a well-formed block has
-pub record Sized (held : Held) : Type 0 where
-  pub some : 1 ≤ held.pages
-  pub pages : held.pages ≤ 1048576
-  pub table : held.table < 1048576
-  pub next : held.regs.next < held.pages
-  pub version : (held.version ≡ 0) ⊎ (held.version ≡ 2)
+pub record Sized (contents : Contents) : Type 0 where
+  pub some : 1 ≤ contents.pages
+  pub pages : contents.pages ≤ 1048576
+  pub table : contents.table < 1048576
+  pub next : contents.regs.next < contents.pages
+  pub version : (contents.version ≡ 0) ⊎ (contents.version ≡ 2)
 
 either_version : (v : ℕ) → (v == 0 ≡ true) ⊎ (v == 2 ≡ true) → (v ≡ 0) ⊎ (v ≡ 2)
 either_version v (inl e) = inl (eqb-true v 0 e)
 either_version v (inr e) = inr (eqb-true v 2 e)
 
-pub block_sized : (S : List ℕ) (g : ℕ) (held : Held) → block_of S g ≡ Some held → Sized held
-block_sized S g held e = subst Sized (block_holds S g held e).1 (sized (and_parts (fits_hart (regs_at S g)) (fits_pages S g) (block_holds S g held e).0).1)
+pub block_sized : (S : List ℕ) (g : ℕ) (contents : Contents) → block_of S g ≡ Some contents → Sized contents
+block_sized S g contents e = subst Sized (block_holds S g contents e).1 (sized (and_parts (fits_hart (regs_at S g)) (fits_pages S g) (block_holds S g contents e).0).1)
   where
-    sized : fits_pages S g ≡ true → Sized (held_at S g)
+    sized : fits_pages S g ≡ true → Sized (contents_at S g)
     sized f =
         let n : ℕ = pages_at S g in
         let a = and_parts (nat_lt 0 n && nat_le n 1048576 && nat_lt (table_at S g) 1048576 && nat_lt (word_at S g 64) n) ((version_at S g == 0) || (version_at S g == 2)) f in

@@ -116,18 +116,18 @@ abbrev pub is_block : List ℕ → ℕ → Bool
 is_block S g = fits_hart (regs_at S g) && fits_pages S g
 
 -- what a well-formed block says
-pub record Held : Type 0 where
+pub record Contents : Type 0 where
   pub regs : Regs
   pub pages : ℕ
   pub table : ℕ
   pub version : ℕ
 
-abbrev pub held_at : List ℕ → ℕ → Held
-held_at S g = record { regs = regs_at S g; pages = pages_at S g; table = table_at S g; version = version_at S g }
+abbrev pub contents_at : List ℕ → ℕ → Contents
+contents_at S g = record { regs = regs_at S g; pages = pages_at S g; table = table_at S g; version = version_at S g }
 
 -- the block in page g, which is one only where its words are well formed
-abbrev pub block_of : List ℕ → ℕ → Option Held
-block_of S g = if is_block S g then Some (held_at S g) else None
+abbrev pub block_of : List ℕ → ℕ → Option Contents
+block_of S g = if is_block S g then Some (contents_at S g) else None
 
 -- the storage with the words 0 to 48 and 64 of page g replaced by the registers r, and no other word
 abbrev pub put_regs : List ℕ → ℕ → Regs → List ℕ

@@ -1,3 +1,3 @@
 pub mod Block
-pub mod Held
+pub mod Contents
 pub mod Laws

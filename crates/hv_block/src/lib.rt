@@ -7,7 +7,7 @@ ghost use Rattle.hv_word.specs.Storage.{page_count, word_at};
 ghost use Rattle.hv_cpu.specs.Regs.{FitsHart, file_of};
 ghost use Rattle.hv_block.specs.Block.{fits_size, regs_at, fits_hart, block_of, put_regs, with_fault};
 ghost use Rattle.std.proofs.Math.Seq.{sets};
-ghost use Rattle.hv_block.specs.Held.{held_of};
+ghost use Rattle.hv_block.specs.Contents.{contents_of};
 
 pub mod laws;
 #[cfg(test)]
@@ -41,7 +41,7 @@ pub fn block_word(store: &Store, page: u32, word: u32) -> u32
 /// The machine whose control block is in bare page `page`; none where its words aren't well formed.
 pub fn read_block(store: &Store, page: u32) -> Option<Block>
     requires { page < page_count store.now }
-    ensures block { option_map held_of result ≡ block_of store.now page }
+    ensures block { option_map contents_of result ≡ block_of store.now page }
     ensures some { IfSome result (λ b. 1 ≤ b.pages) }
     ensures pages { IfSome result (λ b. b.pages ≤ 2 ^ 20) }
     ensures table { IfSome result (λ b. b.table < 2 ^ 20) }

@@ -40,9 +40,9 @@ abbrev pub or_else : Option ℕ → Option ℕ → Option ℕ
 or_else (Some k) other = Some k
 or_else None other = other
 
-abbrev pub among : Bool → ℕ → Option ℕ
-among is_open set = if is_open then first_in by_urgency set else None
+abbrev pub most_urgent_of : Bool → ℕ → Option ℕ
+most_urgent_of is_open set = if is_open then first_in by_urgency set else None
 
 -- the one to take: of those that aren't delegated the first, else the first delegated one
 abbrev pub pending_of : Regs → Option ℕ
-pending_of r = or_else (among (is_open_m r) (raised_m r)) (among (is_open_s r) (raised_s r))
+pending_of r = or_else (most_urgent_of (is_open_m r) (raised_m r)) (most_urgent_of (is_open_s r) (raised_s r))

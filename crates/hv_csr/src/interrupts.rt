@@ -2,7 +2,7 @@
 
 ghost use Rattle.std.specs.Prelude.{◌≡◌, ◌-◌, ◌<◌, IfSome};
 ghost use Rattle.std.specs.Int.RustNames.{bit_and};
-ghost use Rattle.hv_csr.specs.Interrupts.{among, by_urgency, first_in, is_open_m, is_open_s, pending_of};
+ghost use Rattle.hv_csr.specs.Interrupts.{most_urgent_of, by_urgency, first_in, is_open_m, is_open_s, pending_of};
 
 use bitflags::Flags;
 use hv_cpu::mstatus::{MIE, SIE};

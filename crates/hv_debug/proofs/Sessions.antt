@@ -12,7 +12,7 @@ use Rattle.hv_debug.specs.declared.stop.Break.{Break}
 use Rattle.hv_debug.specs.declared.stop.Stop.{Stop}
 use Rattle.hv_debug.specs.Answers.{at_line, echo_line}
 use Rattle.hv_debug.specs.Playing.{steps_from}
-use Rattle.hv_debug.specs.Reaching.{Goes, Halts, HasReached, IsSession, StaysOnWay}
+use Rattle.hv_debug.specs.Reaching.{Becomes, Halts, HasReached, IsSession, StaysOnWay}
 use Rattle.hv_debug.specs.Transcript.{Session, after_line, after_command, after_steps, with_text}
 use Rattle.hv_debug.proofs.Reaches.{has_stayed, on_way}
 
@@ -26,7 +26,7 @@ pub goes_on : (d e : Debugger) (here there : State) (count : ℕ) (stop : Stop)
     → Halts d.breaks.items count d.player here e.player there stop
     → e.breaks.items ≡ d.breaks.items
     → e.out.items ≡ d.out.items ++ at_line e.player.steps stop
-    → Goes (after_steps count) d here e there
+    → Becomes (after_steps count) d here e there
 goes_on d e here there count stop halts breaks text start moves s h =
     let x = subst (λ (bs : List Break). Halts bs count d.player here e.player there stop) h.breaks halts start moves s.reached h.reached in
     record {
@@ -42,8 +42,8 @@ pub line_goes : (d m e : Debugger) (here there : State) (names : List Named) (l 
     → m.player ≡ d.player
     → m.breaks.items ≡ d.breaks.items
     → m.out.items ≡ d.out.items ++ echo_line l.words
-    → Goes (λ start s. after_command start names s l.what) m here e there
-    → Goes (λ start s. after_line start names s l) d here e there
+    → Becomes (λ start s. after_command start names s l.what) m here e there
+    → Becomes (λ start s. after_line start names s l) d here e there
 line_goes d m e here there names l player breaks text goes start moves s h =
     goes start moves (with_text s (echo_line l.words))
     record {

@@ -71,8 +71,8 @@ pub record IsSession (start : State) (moves : List Move) (d : Debugger) (now : S
   pub text : d.out.items ≡ s.text
 
 -- whatever session the debugger d stood for, the debugger e stands for what f makes of it
-abbrev pub Goes : (State → Session → Session) → Debugger → State → Debugger → State → Type 0
-Goes f d here e there =
+abbrev pub Becomes : (State → Session → Session) → Debugger → State → Debugger → State → Type 0
+Becomes f d here e there =
     (start : State) (moves : List Move) (s : Session)
     → IsSession start moves d here s
     → IsSession start moves e there (f start s)

@@ -5,7 +5,7 @@ ghost use Rattle.hv_irq.specs.Events.{IsSchedule, hart_of};
 ghost use Rattle.hv_run.specs.Record.{schedule};
 ghost use Rattle.hv_text.specs.Text.{line};
 ghost use Rattle.hv_debug.specs.Answers.{path_named};
-ghost use Rattle.hv_debug.specs.Reaching.{CanGo, Goes, IsSession, StaysOnWay};
+ghost use Rattle.hv_debug.specs.Reaching.{CanGo, Becomes, IsSession, StaysOnWay};
 ghost use Rattle.hv_debug.specs.Transcript.{after_line, after_command, more_breaks, session_before, after_steps};
 
 use crate::answers::{put_at, put_echo, put_faults, put_map, put_mem, put_regs, put_running};
@@ -65,7 +65,7 @@ impl<'a> Debugger<'a> {
     ) -> Result<(), AllocError>
         requires { CanGo (length (N.state nested.old).harts) self.old.player }
         ensures can { CanGo (length (N.state nested.new).harts) self.new.player }
-        ensures goes { OnOk result (Goes (λ start s. after_line start names.now s line.now) self.old (N.state nested.old) self.new (N.state nested.new)) }
+        ensures goes { OnOk result (Becomes (λ start s. after_line start names.now s line.now) self.old (N.state nested.old) self.new (N.state nested.new)) }
         ensures way { StaysOnWay self.old (N.state nested.old) (N.state nested.new) }
     {
         put_echo(&mut self.out, line.words.as_slice())?;
@@ -82,7 +82,7 @@ impl<'a> Debugger<'a> {
     ) -> Result<(), AllocError>
         requires { CanGo (length (N.state nested.old).harts) self.old.player }
         ensures can { CanGo (length (N.state nested.new).harts) self.new.player }
-        ensures goes { OnOk result (Goes (λ start s. after_command start names.now s command.now) self.old (N.state nested.old) self.new (N.state nested.new)) }
+        ensures goes { OnOk result (Becomes (λ start s. after_command start names.now s command.now) self.old (N.state nested.old) self.new (N.state nested.new)) }
         ensures way { StaysOnWay self.old (N.state nested.old) (N.state nested.new) }
     {
         match command {
@@ -104,7 +104,7 @@ impl<'a> Debugger<'a> {
     fn step<N: Nested>(&mut self, nested: &mut N, count: u32) -> Result<(), AllocError>
         requires { CanGo (length (N.state nested.old).harts) self.old.player }
         ensures can { CanGo (length (N.state nested.new).harts) self.new.player }
-        ensures goes { OnOk result (Goes (after_steps count) self.old (N.state nested.old) self.new (N.state nested.new)) }
+        ensures goes { OnOk result (Becomes (after_steps count) self.old (N.state nested.old) self.new (N.state nested.new)) }
         ensures way { StaysOnWay self.old (N.state nested.old) (N.state nested.new) }
     {
         let stop = self.player.play_on(nested, &self.breaks, count);

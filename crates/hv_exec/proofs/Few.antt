@@ -27,7 +27,7 @@ use Rattle.hv_store.specs.declared.access.Way.TheVariants.{Open, Shut}
 use Rattle.hv_store.specs.Access.{get, write_through, put_at, clear_through, cleared_at, cleared}
 use Rattle.hv_sv32.specs.Stop.{Walked, Found, TrapWith, RefusedBy}
 use Rattle.hv_sv32.specs.Entry.{is_faulty, is_leaf, is_plain, page_of, grants}
-use Rattle.hv_sv32.specs.Walk.{barred, outside, placed, at_second, from_second, through_second, large_page, at_first, from_first, through_first, is_bare, walk_of}
+use Rattle.hv_sv32.specs.Walk.{barred, outside, located, at_second, from_second, through_second, large_page, at_first, from_first, through_first, is_bare, walk_of}
 use Rattle.hv_exec.specs.declared.answer.Width.{Width}
 use Rattle.hv_exec.specs.declared.answer.Width.TheVariants.{Byte, Half, Word}
 use Rattle.hv_exec.specs.declared.system.Update.{Update}
@@ -431,7 +431,7 @@ IsNear (Found page offset) = offset < 4096
 IsNear (TrapWith cause tval) = Unit {0}
 IsNear (RefusedBy e) = Unit {0}
 
-placed_near : (F : List Slot) (page address : ℕ) (a : Access) → IsNear (placed F page address a)
+placed_near : (F : List Slot) (page address : ℕ) (a : Access) → IsNear (located F page address a)
 unfolding IsNear
 placed_near F page address a = by (nat_lt page (length F))
   where
@@ -445,12 +445,12 @@ pick_near false v w f g = g
 
 walk_near : (S : List ℕ) (F : List Slot) (r : Regs) (address : ℕ) (a : Access) → IsNear (walk_of S F r address a)
 unfolding IsNear
-walk_near S F r address a = pick_near (is_bare r a) (placed F (address / 4096) address a) (through_first S F r address a) (placed_near F (address / 4096) address a) (first (get S F (field_of r.satp 0 22) (field_of address 22 10) Read))
+walk_near S F r address a = pick_near (is_bare r a) (located F (address / 4096) address a) (through_first S F r address a) (placed_near F (address / 4096) address a) (first (get S F (field_of r.satp 0 22) (field_of address 22 10) Read))
   where
     at : (e : ℕ) → IsNear (at_second F r address a e)
     at e =
-        pick_near (is_faulty e) (barred address a) (cond (is_leaf e && grants r a e) (placed F (page_of e) address a) (barred address a)) tt
-        (pick_near (is_leaf e && grants r a e) (placed F (page_of e) address a) (barred address a) (placed_near F (page_of e) address a) tt)
+        pick_near (is_faulty e) (barred address a) (cond (is_leaf e && grants r a e) (located F (page_of e) address a) (barred address a)) tt
+        (pick_near (is_leaf e && grants r a e) (located F (page_of e) address a) (barred address a) (placed_near F (page_of e) address a) tt)
 
     second : (o : Option (Result ℕ Refusal)) → IsNear (from_second F r address a o)
     second None = tt
@@ -459,9 +459,9 @@ walk_near S F r address a = pick_near (is_bare r a) (placed F (address / 4096) a
 
     from : (e : ℕ) → IsNear (at_first S F r address a e)
     from e =
-        pick_near (is_faulty e) (barred address a) (cond (is_leaf e) (cond ((field_of e 10 10 == 0) && grants r a e) (placed F (large_page e address) address a) (barred address a)) (cond (is_plain e) (through_second S F r (page_of e) address a) (barred address a))) tt
-        (pick_near (is_leaf e) (cond ((field_of e 10 10 == 0) && grants r a e) (placed F (large_page e address) address a) (barred address a)) (cond (is_plain e) (through_second S F r (page_of e) address a) (barred address a))
-        (pick_near ((field_of e 10 10 == 0) && grants r a e) (placed F (large_page e address) address a) (barred address a) (placed_near F (large_page e address) address a) tt)
+        pick_near (is_faulty e) (barred address a) (cond (is_leaf e) (cond ((field_of e 10 10 == 0) && grants r a e) (located F (large_page e address) address a) (barred address a)) (cond (is_plain e) (through_second S F r (page_of e) address a) (barred address a))) tt
+        (pick_near (is_leaf e) (cond ((field_of e 10 10 == 0) && grants r a e) (located F (large_page e address) address a) (barred address a)) (cond (is_plain e) (through_second S F r (page_of e) address a) (barred address a))
+        (pick_near ((field_of e 10 10 == 0) && grants r a e) (located F (large_page e address) address a) (barred address a) (placed_near F (large_page e address) address a) tt)
         (pick_near (is_plain e) (through_second S F r (page_of e) address a) (barred address a) (second (get S F (page_of e) (field_of address 12 10) Read)) tt))
 
     first : (o : Option (Result ℕ Refusal)) → IsNear (from_first S F r address a o)

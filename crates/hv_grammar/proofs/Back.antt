@@ -27,9 +27,9 @@ use Rattle.hv_job.specs.JobOf.{and_then, at_line, before_end, begins_image, behi
 use Rattle.hv_job.specs.declared.job.DebugLine.{DebugLine as Command}
 use Rattle.hv_job.specs.declared.job.Job.{Job}
 use Rattle.hv_grammar.specs.Forms.{Form, IsInRange, IsLine, Harts, Image, Sampled, Turn, Lines}
-use Rattle.hv_grammar.specs.Said.{AreAssembled, Said, Called, Directed, Inner, Nothing, StorageOf, IsAssembled, assembled, commands_by, commands_said, events_by, inner_lines, job_said, on_line, placed_by}
+use Rattle.hv_grammar.specs.Said.{AreAssembled, Said, Called, Directed, Inner, Nothing, StorageOf, FormAssembles, assembled, commands_by, commands_said, events_by, inner_lines, job_said, on_line, placed_by}
 use Rattle.hv_grammar.specs.Texts.{GoesOn, IsAllowed, IsAlone, IsOver, IsPlain, IsTold, JobTextLaw, Place, AmongCommands, AmongDirectives, BeforeHeader, BeforeStorage, InsideImage}
-use Rattle.hv_grammar.specs.Within.{IsWithin, harts_by_line, harts_lines}
+use Rattle.hv_grammar.specs.Within.{IsWithinLimits, harts_by_line, harts_lines}
 use Rattle.hv_grammar.proofs.Calls.{commands_are_calls}
 use Rattle.hv_grammar.proofs.Deeds.{Draft, does}
 use Rattle.hv_grammar.proofs.Inside.{Ends, before_next}
@@ -138,7 +138,7 @@ module _ (draft : Draft) (n : ℕ) (says : List Said) where
       subst (λ o. DoneAt (image_of draft n name at (before_end lines) o)) (sym ends.is)
       (image_words_done name at lines ends.last (n + 1 + length (before_end lines)) (image_words at (before_end lines)) inner refl (ap (λ ls. is_ok (image_words at ls)) (sym inner) ∙ ok) ends.allowed room)
 
-  form_done : (lines : List (List ℕ)) (form : Form) → IsPlain form → IsInRange form → Room draft n (Directed form ∷ says) → IsAssembled form says → DoneAt (does draft n lines form)
+  form_done : (lines : List (List ℕ)) (form : Form) → IsPlain form → IsInRange form → Room draft n (Directed form ∷ says) → FormAssembles form says → DoneAt (does draft n lines form)
   form_done lines (Image name at) plain range room ok = absurd plain
   form_done lines (Harts harts) plain range room ok =
       let h : harts_count draft.harts + harts_lines (Directed (Harts harts) ∷ says) ≤ 1 = room.harts in
@@ -368,7 +368,7 @@ header_read (line ∷ lines) (said ∷ says) to n over on held =
     header_step line lines says to n said on.0 over (header_read lines says to (n + 1) over) (said_way BeforeHeader line said on.0 on.1) on.2 held
 
 -- what is said within the limits has its room
-told_holds : (says : List Said) → AreAssembled says → IsWithin says → Holds (draft_of 0) 1 says
+told_holds : (says : List Said) → AreAssembled says → IsWithinLimits says → Holds (draft_of 0) 1 says
 told_holds says assembled within =
     let one : harts_lines says ≤ 1 = within.harts in
     record {

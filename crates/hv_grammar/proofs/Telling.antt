@@ -18,7 +18,7 @@ use Rattle.hv_line.specs.declared.types.Statement.{Statement}
 use Rattle.hv_line.specs.declared.types.Directive.{Directive}
 use Rattle.hv_line.specs.declared.types.Directive.TheVariants as directive
 use Rattle.hv_grammar.specs.Forms.{Form, IsLine, Harts, Image, Sampled, Turn, Lines, states_for}
-use Rattle.hv_grammar.specs.Said.{AssemblesWith, Said, Directed, Inner, Nothing, IsAssembled, assembled, commands_by, directives_by, events_by, harts_by, inner_lines, on_line, placed_by}
+use Rattle.hv_grammar.specs.Said.{AssemblesWith, Said, Directed, Inner, Nothing, FormAssembles, assembled, commands_by, directives_by, events_by, harts_by, inner_lines, on_line, placed_by}
 use Rattle.hv_grammar.specs.Within.{harts_by_line}
 use Rattle.hv_grammar.specs.Texts.{Goes, IsAllowed, Place, AmongDirectives, InsideImage, NoWords, DirectiveLine, ImageLine}
 use Rattle.hv_grammar.proofs.Deeds.{Draft, does}
@@ -131,7 +131,7 @@ module _ (draft : Draft) (n : ℕ) (line : List ℕ) (lines : List (List ℕ)) w
     image_says = image_given (find is_end lines) refl
 
   -- a directive without an event
-  placed_told : (form : Form) (what : Directive) → Goes AmongDirectives line (Directed form) AmongDirectives → ((behind : List Said) → directives_by form behind ≡ what ∷ []) → events_by (Directed form) ≡ [] → ((more : Option ℕ) → harts_by (Directed form) more ≡ more) → harts_by_line (Directed form) ≡ 0 → ((behind : List Said) → IsAssembled form behind) → SaysThis draft n line lines false (Directed form) (at_line n (directive_with draft n what))
+  placed_told : (form : Form) (what : Directive) → Goes AmongDirectives line (Directed form) AmongDirectives → ((behind : List Said) → directives_by form behind ≡ what ∷ []) → events_by (Directed form) ≡ [] → ((more : Option ℕ) → harts_by (Directed form) more ≡ more) → harts_by_line (Directed form) ≡ 0 → ((behind : List Said) → FormAssembles form behind) → SaysThis draft n line lines false (Directed form) (at_line n (directive_with draft n what))
   unfolding directive_with
   placed_told form what goes one none same uncounted assembles =
       by_test (λ (r : Result Draft JobKind). SaysThis draft n line lines false (Directed form) (at_line n r)) (is_many draft.lines what) _ _ (λ many. refused) (λ few. record {
@@ -154,7 +154,7 @@ module _ (draft : Draft) (n : ℕ) (line : List ℕ) (lines : List (List ℕ)) w
   sample_told name at which goes (Err refusal) is = refused
 
   -- an event
-  event_told : (form : Form) (new : Event) → Goes AmongDirectives line (Directed form) AmongDirectives → ((behind : List Said) → directives_by form behind ≡ event_directive new ∷ []) → events_by (Directed form) ≡ new ∷ [] → ((more : Option ℕ) → harts_by (Directed form) more ≡ more) → harts_by_line (Directed form) ≡ 0 → ((behind : List Said) → IsAssembled form behind) → (o : Option PushEnd) → SaysThis draft n line lines false (Directed form) (at_line n (event_with draft n new o))
+  event_told : (form : Form) (new : Event) → Goes AmongDirectives line (Directed form) AmongDirectives → ((behind : List Said) → directives_by form behind ≡ event_directive new ∷ []) → events_by (Directed form) ≡ new ∷ [] → ((more : Option ℕ) → harts_by (Directed form) more ≡ more) → harts_by_line (Directed form) ≡ 0 → ((behind : List Said) → FormAssembles form behind) → (o : Option PushEnd) → SaysThis draft n line lines false (Directed form) (at_line n (event_with draft n new o))
   event_told form new goes one some same uncounted assembles (Some end) = refused
   event_told form new goes one some same uncounted assembles None = record {
     goes = goes;
@@ -168,7 +168,7 @@ module _ (draft : Draft) (n : ℕ) (line : List ℕ) (lines : List (List ℕ)) w
     assembled = λ behind inner. assembles behind;
   }
 
-  schedule_told : (form : Form) (new : Event) → Goes AmongDirectives line (Directed form) AmongDirectives → ((behind : List Said) → directives_by form behind ≡ event_directive new ∷ []) → events_by (Directed form) ≡ new ∷ [] → ((more : Option ℕ) → harts_by (Directed form) more ≡ more) → harts_by_line (Directed form) ≡ 0 → ((behind : List Said) → IsAssembled form behind) → SaysThis draft n line lines false (Directed form) (at_line n (schedule_with draft n new))
+  schedule_told : (form : Form) (new : Event) → Goes AmongDirectives line (Directed form) AmongDirectives → ((behind : List Said) → directives_by form behind ≡ event_directive new ∷ []) → events_by (Directed form) ≡ new ∷ [] → ((more : Option ℕ) → harts_by (Directed form) more ≡ more) → harts_by_line (Directed form) ≡ 0 → ((behind : List Said) → FormAssembles form behind) → SaysThis draft n line lines false (Directed form) (at_line n (schedule_with draft n new))
   unfolding schedule_with
   schedule_told form new goes one some same uncounted assembles =
       event_told form new goes one some same uncounted assembles (refusal_of draft.recording new)

@@ -19,7 +19,7 @@ use Rattle.hv_grammar.proofs.Deeds.{Draft}
 use Rattle.hv_grammar.proofs.Formed.{storage_formed}
 use Rattle.hv_grammar.proofs.Inside.{Ends, before_next, ends_here, ends_next, no_end}
 use Rattle.hv_grammar.proofs.Steps.{Good, Stops, Whole, by_result, by_test, debug_says, end_says, goes_says, header_says, no_words, step, stops, unless}
-use Rattle.hv_grammar.specs.Within.{IsWithin, harts_lines}
+use Rattle.hv_grammar.specs.Within.{IsWithinLimits, harts_lines}
 use Rattle.hv_job.proofs.Limiting.{IsReadJob, text_is}
 use Rattle.hv_grammar.proofs.Telling.{Says, Told, harts_count, line_says, or_first, place_in}
 
@@ -275,7 +275,7 @@ text_good : (text : List ℕ) → Good BeforeHeader 1 (lines_of text) (IsSaid 1)
 unfolding job_of
 text_good text = header_good (lines_of text) 1
 
-within : (job : Job) (says : List Said) → job ≡ job_said 1 says → harts_lines says ≤ 1 → IsReadJob job → IsWithin says
+within : (job : Job) (says : List Said) → job ≡ job_said 1 says → harts_lines says ≤ 1 → IsReadJob job → IsWithinLimits says
 within job says is one read =
     let r = subst IsReadJob is read in
     record {

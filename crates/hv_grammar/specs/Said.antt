@@ -67,13 +67,13 @@ directives_by (Watch hart name) behind = directive.Watch hart name ∷ []
 directives_by (Dump name page) behind = directive.Dump name page ∷ []
 
 -- its image, or its sample, is assembled
-abbrev pub IsAssembled : Form → List Said → Type 0
-IsAssembled (Image name at) behind = IsOk (image_words at (inner_lines behind))
-IsAssembled (Sampled name at which) behind = IsOk (asm_of (sample_text which) at)
-IsAssembled _ behind = Unit {0}
+abbrev pub FormAssembles : Form → List Said → Type 0
+FormAssembles (Image name at) behind = IsOk (image_words at (inner_lines behind))
+FormAssembles (Sampled name at which) behind = IsOk (asm_of (sample_text which) at)
+FormAssembles _ behind = Unit {0}
 
 abbrev pub AssemblesWith : Said → List Said → Type 0
-AssemblesWith (Directed form) behind = IsAssembled form behind
+AssemblesWith (Directed form) behind = FormAssembles form behind
 AssemblesWith _ behind = Unit {0}
 
 -- all images and samples are assembled

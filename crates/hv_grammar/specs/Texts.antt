@@ -9,7 +9,7 @@ use Rattle.hv_line.specs.declared.kinds.JobKind.TheVariants as fault
 use Rattle.hv_line.specs.declared.types.DebugCommand.{DebugCommand}
 use Rattle.hv_job.specs.declared.job.Job.{Job}
 use Rattle.hv_grammar.specs.Said.{AreAssembled, Said, Called, Directed, Inner, Nothing, StorageOf, job_said}
-use Rattle.hv_grammar.specs.Within.{IsWithin}
+use Rattle.hv_grammar.specs.Within.{IsWithinLimits}
 use Rattle.hv_grammar.specs.Forms.{Form, Image, IsCall, IsLine, IsStorageLine}
 
 -- where a line stands
@@ -87,7 +87,7 @@ pub record IsTold (lines : List (List ℕ)) (job : Job) : Type 0 where
   pub goes_on : GoesOn BeforeHeader lines says place
   pub over : IsOver place
   pub assembled : AreAssembled says
-  pub within : IsWithin says
+  pub within : IsWithinLimits says
   pub is : job ≡ job_said 1 says
 
 -- a text is a job exactly where its lines go all the way and say it, what they assemble is assembled, and the limits

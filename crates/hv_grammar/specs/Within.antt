@@ -18,7 +18,7 @@ harts_lines (said ∷ says) = harts_lines says + harts_by_line said
 
 -- At most one line says the number of harts. There are few enough machines, watches and dumps, bytes of all images and
 -- samples together, steps of all turns together, events, commands, and breakpoints among these.
-pub record IsWithin (says : List Said) : Type 0 where
+pub record IsWithinLimits (says : List Said) : Type 0 where
   pub harts : harts_lines says ≤ 1
   pub machines : count_of is_machine (placed_said 1 says) ≤ job_machines
   pub watches : count_of is_watch (placed_said 1 says) ≤ job_watches

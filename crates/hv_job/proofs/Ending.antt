@@ -4,7 +4,7 @@ use Rattle.std.specs.List.{list_any}
 use Rattle.std.proofs.Math.Seq.{take-append_seam}
 use Rattle.std.proofs.lemmas.List.{take-append-drop, nil_from_length}
 use Rattle.std.proofs.lemmas.List.Folds.{list_any-append}
-use Rattle.hv_lex.specs.Lines.{lines_of, cut_of, IsLine}
+use Rattle.hv_lex.specs.Lines.{lines_of, cut_of, IsLineText}
 use Rattle.hv_job.specs.Inside.{IsCut}
 use Rattle.hv_job.specs.JobOf.{is_end}
 
@@ -28,14 +28,14 @@ front_start s = let e : length s - length s ≡ 0 = omega arith in subst (λ n. 
 pub cut_start : (s : List ℕ) → take (length s - length s) s ++ s ≡ s
 cut_start s = let e : length s - length s ≡ 0 = omega arith in ap (λ n. take n s ++ s) e
 
-line_alone : (line piece : List ℕ) → IsLine line piece → lines_of piece ≡ line ∷ []
+line_alone : (line piece : List ℕ) → IsLineText line piece → lines_of piece ≡ line ∷ []
 line_alone line piece is =
     ap lines_of (sym (append-nil piece)) ∙ is [] ∙ ap (λ ls. line ∷ ls) (no_lines [] refl)
 
-lines_more : (front piece line : List ℕ) (count : ℕ) → IsFront front count → IsLine line piece → lines_of (front ++ piece) ≡ lines_of front ++ line ∷ []
+lines_more : (front piece line : List ℕ) (count : ℕ) → IsFront front count → IsLineText line piece → lines_of (front ++ piece) ≡ lines_of front ++ line ∷ []
 lines_more front piece line count is one = is.whole piece ∙ ap (λ ls. lines_of front ++ ls) (line_alone line piece one)
 
-pub front_more : (front piece line : List ℕ) (count : ℕ) → IsFront front count → IsLine line piece → is_end line ≡ false → IsFront (front ++ piece) (count + 1)
+pub front_more : (front piece line : List ℕ) (count : ℕ) → IsFront front count → IsLineText line piece → is_end line ≡ false → IsFront (front ++ piece) (count + 1)
 front_more front piece line count is one goes = record {
   whole = λ rest.
       ap lines_of (append_assoc front piece rest) ∙ is.whole (piece ++ rest)
@@ -72,7 +72,7 @@ cut_next text rest behind cut is =
     ap (λ f. f ++ behind) (cut_more text rest behind cut is) ∙ append_assoc front piece behind
     ∙ ap (λ r. front ++ r) (piece_of rest behind is) ∙ cut
 
-pub front_next : (text rest behind line : List ℕ) (count : ℕ) → take (length text - length rest) text ++ rest ≡ text → behind ≡ drop (length rest - length behind) rest → IsFront (take (length text - length rest) text) count → IsLine line (take (length rest - length behind) rest) → is_end line ≡ false → IsFront (take (length text - length behind) text) (count + 1)
+pub front_next : (text rest behind line : List ℕ) (count : ℕ) → take (length text - length rest) text ++ rest ≡ text → behind ≡ drop (length rest - length behind) rest → IsFront (take (length text - length rest) text) count → IsLineText line (take (length rest - length behind) rest) → is_end line ≡ false → IsFront (take (length text - length behind) text) (count + 1)
 front_next text rest behind line count cut is front one goes =
     subst (λ f. IsFront f (count + 1)) (sym (cut_more text rest behind cut is))
     (front_more (take (length text - length rest) text) (take (length rest - length behind) rest) line count front one goes)

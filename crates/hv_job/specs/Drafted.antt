@@ -60,7 +60,7 @@ LeadsTo (Ok place) text next = text ≡ next place
 LeadsTo (Err end) text next = Refuses end text
 
 -- behind a line that was done the next line follows
-abbrev pub Advances : Result Rest JobEnd → Result (Unit {0}) JobLineEnd → ℕ → List ℕ → Type 0
-Advances (Ok rest) (Ok done) number behind = (rest.text.now ≡ behind) × (rest.number ≡ number + 1)
-Advances (Err given) (Err end) number behind = given ≡ end_at end number
-Advances _ _ number behind = ⊥
+abbrev pub ContinuesAt : Result Rest JobEnd → Result (Unit {0}) JobLineEnd → ℕ → List ℕ → Type 0
+ContinuesAt (Ok rest) (Ok done) number behind = (rest.text.now ≡ behind) × (rest.number ≡ number + 1)
+ContinuesAt (Err given) (Err end) number behind = given ≡ end_at end number
+ContinuesAt _ _ number behind = ⊥

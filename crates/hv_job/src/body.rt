@@ -2,7 +2,7 @@
 
 ghost use Rattle.std.specs.Prelude.{◌≡◌, ◌+◌, ◌<◌, ◌≤◌, ◌^◌, false, length, IfOk};
 ghost use Rattle.hv_lex.specs.Lines.{lines_of};
-ghost use Rattle.hv_job.specs.Drafted.{Advances, GivesDraft, GivesJob, LeadsTo};
+ghost use Rattle.hv_job.specs.Drafted.{ContinuesAt, GivesDraft, GivesJob, LeadsTo};
 ghost use Rattle.hv_line.specs.Ranges.{IsStatement};
 ghost use Rattle.hv_job.specs.JobOf.{draft_with, begins_image, body_from, draft_of, header_from, is_debug as is_debug_of, is_image, line_with, storage_from};
 ghost use Rattle.hv_line.specs.Lines.{words_of};
@@ -176,7 +176,7 @@ fn add<'a>(
 // What is behind a line that was done.
 fn go_on(done: Result<(), JobLineEnd>, number: u32, behind: &[u8]) -> Result<Rest<'_>, JobEnd>
     requires { number + 1 < 2 ^ 32 }
-    ensures { Advances result done number behind.now }
+    ensures { ContinuesAt result done number behind.now }
 {
     match done {
         Ok(()) => Ok(Rest {

@@ -134,13 +134,13 @@ written (p ∷ []) = text_in p
 written (p ∷ q ∷ ps) = text_in p ++ written (q ∷ ps)
 
 -- their tokens, the first from this place on
-abbrev pub placed : ℕ → List Part → List Token
-placed at [] = []
-placed at (Said text kind ∷ ps) = record { start = at; end = at + length text; kind = kind } ∷ placed (at + length text) ps
-placed at (Blank ∷ ps) = placed (at + 1) ps
-placed at (CommaPart ∷ ps) = record { start = at; end = at + 1; kind = Comma } ∷ placed (at + 1) ps
-placed at (OpenPart ∷ ps) = record { start = at; end = at + 1; kind = Open } ∷ placed (at + 1) ps
-placed at (ClosePart ∷ ps) = record { start = at; end = at + 1; kind = Close } ∷ placed (at + 1) ps
+abbrev pub part_tokens : ℕ → List Part → List Token
+part_tokens at [] = []
+part_tokens at (Said text kind ∷ ps) = record { start = at; end = at + length text; kind = kind } ∷ part_tokens (at + length text) ps
+part_tokens at (Blank ∷ ps) = part_tokens (at + 1) ps
+part_tokens at (CommaPart ∷ ps) = record { start = at; end = at + 1; kind = Comma } ∷ part_tokens (at + 1) ps
+part_tokens at (OpenPart ∷ ps) = record { start = at; end = at + 1; kind = Open } ∷ part_tokens (at + 1) ps
+part_tokens at (ClosePart ∷ ps) = record { start = at; end = at + 1; kind = Close } ∷ part_tokens (at + 1) ps
 
 -- no name or number stands at the front
 abbrev pub Apart : List Part → Type 0
@@ -152,13 +152,13 @@ Apart (OpenPart ∷ ps) = Unit {0}
 Apart (ClosePart ∷ ps) = Unit {0}
 
 -- each name and number is one token, and no two of them stand side by side
-abbrev pub IsLine : List Part → Type 0
-IsLine [] = Unit {0}
-IsLine (Said text kind ∷ ps) = Reads text kind × Apart ps × IsLine ps
-IsLine (Blank ∷ ps) = IsLine ps
-IsLine (CommaPart ∷ ps) = IsLine ps
-IsLine (OpenPart ∷ ps) = IsLine ps
-IsLine (ClosePart ∷ ps) = IsLine ps
+abbrev pub AreParts : List Part → Type 0
+AreParts [] = Unit {0}
+AreParts (Said text kind ∷ ps) = Reads text kind × Apart ps × AreParts ps
+AreParts (Blank ∷ ps) = AreParts ps
+AreParts (CommaPart ∷ ps) = AreParts ps
+AreParts (OpenPart ∷ ps) = AreParts ps
+AreParts (ClosePart ∷ ps) = AreParts ps
 
 written_more : (p : Part) (ps : List Part) → written (p ∷ ps) ≡ text_in p ++ written ps
 written_more p [] = sym (append-nil (text_in p))
@@ -177,7 +177,7 @@ apart_ends (ClosePart ∷ []) apart = close_marks.ends
 apart_ends (ClosePart ∷ q ∷ ps) apart = close_marks.ends
 
 -- a line in parts has their tokens
-pub line_tokens : (at : ℕ) (ps : List Part) → IsLine ps → lexed_at at (written ps) ≡ Ok (placed at ps)
+pub line_tokens : (at : ℕ) (ps : List Part) → AreParts ps → lexed_at at (written ps) ≡ Ok (part_tokens at ps)
 unfolding lexed_at tokens_at pieces_of with_front
 line_tokens at [] line = refl
 line_tokens at (Said text kind ∷ ps) line =
@@ -227,7 +227,7 @@ unbroken_both : (xs ys : List ℕ) → Unbroken xs → Unbroken ys → Unbroken 
 unbroken_both [] ys front back = back
 unbroken_both (x ∷ xs) ys front back = (front.0, front.1, unbroken_both xs ys front.2 back)
 
-pub line_unbroken : (ps : List Part) → IsLine ps → Unbroken (written ps)
+pub line_unbroken : (ps : List Part) → AreParts ps → Unbroken (written ps)
 line_unbroken [] line = tt
 line_unbroken (Said text kind ∷ []) line = line.0.unbroken
 line_unbroken (Said text kind ∷ q ∷ ps) line = unbroken_both text (written (q ∷ ps)) line.0.unbroken (line_unbroken (q ∷ ps) line.2)

@@ -19,5 +19,5 @@ unfoldable pub lines_of : List ℕ → List (List ℕ)
 lines_of text = map returned (cut_of text)
 
 -- a text that is this line, its line feed included, whatever stands behind it
-abbrev pub IsLine : List ℕ → List ℕ → Type 0
-IsLine line text = (rest : List ℕ) → lines_of (text ++ rest) ≡ line ∷ lines_of rest
+abbrev pub IsLineText : List ℕ → List ℕ → Type 0
+IsLineText line text = (rest : List ℕ) → lines_of (text ++ rest) ≡ line ∷ lines_of rest

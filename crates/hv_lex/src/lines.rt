@@ -1,7 +1,7 @@
 //! Cutting a text into lines.
 
 ghost use Rattle.std.specs.Prelude.{◌≡◌, ◌≢◌, ℕ, ◌+◌, ◌-◌, ◌<◌, ◌≤◌, List, ◌∷◌, ◌++◌, length, take, drop, slice_index};
-ghost use Rattle.hv_lex.specs.Lines.{IsLine, cut_of, lines_of, returned as returned_of};
+ghost use Rattle.hv_lex.specs.Lines.{IsLineText, cut_of, lines_of, returned as returned_of};
 
 /// The first line of a text, without its line feed and without a carriage return at its end, and the text behind it.
 pub fn first_line(text: &[u8]) -> (&[u8], &[u8])
@@ -11,7 +11,7 @@ pub fn first_line(text: &[u8]) -> (&[u8], &[u8])
     ensures behind { length result.1.now < length text.now }
     ensures rest { result.1.now ≡ drop (length text.now - length result.1.now) text.now }
     ensures front { 0 < length result.1.now
-        → IsLine result.0.now (take (length text.now - length result.1.now) text.now) }
+        → IsLineText result.0.now (take (length text.now - length result.1.now) text.now) }
 {
     let (line, rest) = first_cut(text);
     (returned(line), rest)

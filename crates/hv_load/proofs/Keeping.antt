@@ -60,7 +60,7 @@ pub record IsAsked (harts : ℕ) (a : PlacedWatch) : Type 0 where
   pub bare : a.watch.path ≡ [] → harts ≤ 1
 
 -- n comes of b by something that asks for so many watches and dumps
-pub record Keeps (b n : Building) (asks shows : ℕ) : Type 0 where
+pub record KeepsBuilding (b n : Building) (asks shows : ℕ) : Type 0 where
   pub words : length n.storage ≡ length b.storage
   pub harts : length n.harts ≡ length b.harts
   pub idle : All (λ r. r.next ≡ 0) b.harts → All (λ r. r.next ≡ 0) n.harts
@@ -69,7 +69,7 @@ pub record Keeps (b n : Building) (asks shows : ℕ) : Type 0 where
   pub dumps : length n.dumps ≡ length b.dumps + shows
 
 -- only the storage, the marks and the names changed, and no word more came
-same : (b n : Building) → length n.storage ≡ length b.storage → n.harts ≡ b.harts → n.watches ≡ b.watches → n.dumps ≡ b.dumps → Keeps b n 0 0
+same : (b n : Building) → length n.storage ≡ length b.storage → n.harts ≡ b.harts → n.watches ≡ b.watches → n.dumps ≡ b.dumps → KeepsBuilding b n 0 0
 same b n words harts watches dumps = record {
   words = words;
   harts = ap length harts;
@@ -80,10 +80,10 @@ same b n words harts watches dumps = record {
 }
 
 -- what is given is what was made
-made : {E : Type 0} (b m n : Building) (w d : ℕ) (r : Result Building E) → Keeps b m w d → r ≡ Ok m → r ≡ Ok n → Keeps b n w d
-made b m n w d r keeps e o = subst (λ (n : Building). Keeps b n w d) (given m n r e o) keeps
+made : {E : Type 0} (b m n : Building) (w d : ℕ) (r : Result Building E) → KeepsBuilding b m w d → r ≡ Ok m → r ≡ Ok n → KeepsBuilding b n w d
+made b m n w d r keeps e o = subst (λ (n : Building). KeepsBuilding b n w d) (given m n r e o) keeps
 
-hart_keeps : (b n : Building) (hart pc : ℕ) → hart_of b hart pc ≡ Ok n → Keeps b n 0 0
+hart_keeps : (b n : Building) (hart pc : ℕ) → hart_of b hart pc ≡ Ok n → KeepsBuilding b n 0 0
 hart_keeps b n hart pc is =
     let c = chosen (nat_lt hart (length b.harts)) (Ok (record b { harts = set b.harts hart (record reset_regs { pc = pc }) })) kind.Hart n is in
     made b (record b { harts = set b.harts hart (record reset_regs { pc = pc }) }) n 0 0 _ (record {
@@ -95,7 +95,7 @@ hart_keeps b n hart pc is =
       dumps = omega arith;
     }) refl c.1
 
-event_keeps : (b n : Building) (hart : ℕ) → event_of b hart ≡ Ok n → Keeps b n 0 0
+event_keeps : (b n : Building) (hart : ℕ) → event_of b hart ≡ Ok n → KeepsBuilding b n 0 0
 event_keeps b n hart is =
     let c = chosen (nat_lt hart (length b.harts)) (Ok b) kind.Hart n is in made b b n 0 0 _ (same b b refl refl refl refl) refl c.1
 
@@ -114,13 +114,13 @@ length-with_machine S pages table at [] = refl
 length-with_machine S pages table at (g ∷ gs) =
     length-with_tables (with_page S g (block_word pages table)) pages at 0 gs ∙ length-with_page S g (block_word pages table)
 
-machine_keeps : (b n : Building) (name parent : List ℕ) (block pages table at : ℕ) → machine_of b name parent block pages table at ≡ Ok n → Keeps b n 0 0
+machine_keeps : (b n : Building) (name parent : List ℕ) (block pages table at : ℕ) → machine_of b name parent block pages table at ≡ Ok n → KeepsBuilding b n 0 0
 machine_keeps b n name parent block pages table at is =
     let many = passed (nat_le machines_limit b.machines) (known parent b.names >>= λ k. made_in b name k block pages table at) kind.Many n is in
     let found = bound (known parent b.names) (λ k. made_in b name k block pages table at) n many.1 in
     inside found.0 found.2
   where
-    inside : (k : Known) → made_in b name k block pages table at ≡ Ok n → Keeps b n 0 0
+    inside : (k : Known) → made_in b name k block pages table at ≡ Ok n → KeepsBuilding b n 0 0
     inside k is =
         let placed : Result Building BuildKind = pages_along (map_of b.storage k.path) block pages table >>= λ taken. cond (can_take b.marks taken) (Ok (with_made b name k block pages table at taken)) (Err kind.Overlap) in
         let outside : Result Building BuildKind = cond (is_outside k.pages block pages table at) (Err kind.Outside) placed in
@@ -136,33 +136,33 @@ abbrev done : Building → Result Building BuildKind
 done b = Ok b
 
 -- a word was replaced
-word_keeps : (b n : Building) (place value : ℕ) → done (record b { storage = set b.storage place value }) ≡ Ok n → Keeps b n 0 0
+word_keeps : (b n : Building) (place value : ℕ) → done (record b { storage = set b.storage place value }) ≡ Ok n → KeepsBuilding b n 0 0
 word_keeps b n place value is =
     made b (record b { storage = set b.storage place value }) n 0 0 _ (same b (record b { storage = set b.storage place value }) (length-set b.storage place value) refl refl refl) refl is
 
-mapped_keeps : (b n : Building) (name : List ℕ) (page entry : ℕ) → mapped_of b name page entry ≡ Ok n → Keeps b n 0 0
+mapped_keeps : (b n : Building) (name : List ℕ) (page entry : ℕ) → mapped_of b name page entry ≡ Ok n → KeepsBuilding b n 0 0
 mapped_keeps b n name page entry is =
     let found = bound (known_inside name b.names) (λ k. mapped_in b k page entry) n is in inside found.0 found.2
   where
-    inside : (k : Known) → mapped_in b k page entry ≡ Ok n → Keeps b n 0 0
+    inside : (k : Known) → mapped_in b k page entry ≡ Ok n → KeepsBuilding b n 0 0
     inside k is =
         let inner = passed (nat_le k.pages page) (table_word_of b.storage k.path page >>= λ place. Ok (record b { storage = set b.storage place entry })) kind.Outside n is in
         let at = bound (table_word_of b.storage k.path page) (λ place. Ok (record b { storage = set b.storage place entry })) n inner.1 in
         word_keeps b n at.0 entry at.2
 
-started_keeps : (b n : Building) (name : List ℕ) (pc : ℕ) → started_of b name pc ≡ Ok n → Keeps b n 0 0
+started_keeps : (b n : Building) (name : List ℕ) (pc : ℕ) → started_of b name pc ≡ Ok n → KeepsBuilding b n 0 0
 started_keeps b n name pc is =
     let found = bound (known_inside name b.names) (λ k. started_in b k pc) n is in
     let at = bound (reads_in (map_of b.storage (outer found.0.path)) (block_page found.0.path)) (λ g. Ok (record b { storage = set b.storage (1024 * g) pc })) n found.2 in
     word_keeps b n (1024 * at.0) pc at.2
 
-words_keeps : (b n : Building) (name : List ℕ) (at : ℕ) (values : List ℕ) → words_of b name at values ≡ Ok n → Keeps b n 0 0
+words_keeps : (b n : Building) (name : List ℕ) (at : ℕ) (values : List ℕ) → words_of b name at values ≡ Ok n → KeepsBuilding b n 0 0
 words_keeps b n name at values is =
     let found = bound (known name b.names) (λ k. words_in b k at values) n is in
     let places = bound (each_from (place_by (page_of b.storage found.0)) (at / 4) (length values)) (λ places. Ok (record b { storage = with_values b.storage places values })) n found.2 in
     made b (record b { storage = with_values b.storage places.0 values }) n 0 0 _ (same b (record b { storage = with_values b.storage places.0 values }) (length-with_values b.storage places.0 values) refl refl refl) refl places.2
 
-image_keeps : (b n : Building) (name : List ℕ) (image : Image) → image_of b name image ≡ Ok n → Keeps b n 0 0
+image_keeps : (b n : Building) (name : List ℕ) (image : Image) → image_of b name image ≡ Ok n → KeepsBuilding b n 0 0
 image_keeps b n name image is =
     let found = bound (known name b.names) (λ k. image_in b k image) n is in
     let after : List ℕ → Building = λ places. record b { storage = with_values b.storage places image.words; marks = marked mark.Image (map page_at places) b.marks } in
@@ -177,13 +177,13 @@ bare_alone (s ∷ path) harts is empty = absurd (cons_nil s path empty)
     cons_nil : (s : ℕ) (path : List ℕ) → s ∷ path ≡ [] → ⊥
     cons_nil s path is = cc
 
-watch_keeps : (b n : Building) (line hart : ℕ) (name : List ℕ) → watch_of b line hart name ≡ Ok n → Keeps b n 1 0
+watch_keeps : (b n : Building) (line hart : ℕ) (name : List ℕ) → watch_of b line hart name ≡ Ok n → KeepsBuilding b n 1 0
 watch_keeps b n line hart name is =
     let there = chosen (nat_lt hart (length b.harts)) (known name b.names >>= watch_in b line hart) kind.Hart n is in
     let found = bound (known name b.names) (watch_in b line hart) n there.1 in
     inside found.0 (ltb-true hart (length b.harts) there.0) found.2
   where
-    inside : (k : Known) → hart < length b.harts → watch_in b line hart k ≡ Ok n → Keeps b n 1 0
+    inside : (k : Known) → hart < length b.harts → watch_in b line hart k ≡ Ok n → KeepsBuilding b n 1 0
     inside k lt is =
         let asked : PlacedWatch = record { line = line; watch = record { hart = hart; path = k.path } } in
         let can = passed (is_shared k.path (length b.harts)) (Ok (record b { watches = b.watches ++ asked ∷ [] })) kind.Watch n is in
@@ -196,7 +196,7 @@ watch_keeps b n line hart name is =
           dumps = omega arith;
         }) refl can.1
 
-dump_keeps : (b n : Building) (name : List ℕ) (page : ℕ) → dump_of b name page ≡ Ok n → Keeps b n 0 1
+dump_keeps : (b n : Building) (name : List ℕ) (page : ℕ) → dump_of b name page ≡ Ok n → KeepsBuilding b n 0 1
 dump_keeps b n name page is =
     let found = bound (known name b.names) (dump_in b name page) n is in
     made b (record b { dumps = b.dumps ++ record { name = name; path = found.0.path; page = page } ∷ [] }) n 0 1 _ (record {
@@ -209,7 +209,7 @@ dump_keeps b n name page is =
     }) refl found.2
 
 -- one step after another
-both : (b m n : Building) (w d v e : ℕ) → Keeps b m w d → Keeps m n v e → Keeps b n (w + v) (d + e)
+both : (b m n : Building) (w d v e : ℕ) → KeepsBuilding b m w d → KeepsBuilding m n v e → KeepsBuilding b n (w + v) (d + e)
 both b m n w d v e f g = record {
   words = g.words ∙ f.words;
   harts = g.harts ∙ f.harts;
@@ -219,7 +219,7 @@ both b m n w d v e f g = record {
   dumps = omega (arith, f.dumps, g.dumps);
 }
 
-part_keeps : (b n : Building) (what : Directive) → part_of b what ≡ Ok n → Keeps b n 0 0
+part_keeps : (b n : Building) (what : Directive) → part_of b what ≡ Ok n → KeepsBuilding b n 0 0
 part_keeps b n (directive.Machine name parent block pages table at) is = machine_keeps b n name parent block pages table at is
 part_keeps b n (directive.Sample name image) is = image_keeps b n name image is
 part_keeps b n (directive.Hart hart pc) is = made b b n 0 0 _ (same b b refl refl refl refl) refl is
@@ -233,25 +233,25 @@ part_keeps b n (directive.Lines hart) is = made b b n 0 0 _ (same b b refl refl 
 part_keeps b n (directive.Watch hart name) is = made b b n 0 0 _ (same b b refl refl refl refl) refl is
 part_keeps b n (directive.Dump name page) is = made b b n 0 0 _ (same b b refl refl refl refl) refl is
 
-parts_keep : (b n : Building) (parts : List Placed) → parts_of b parts ≡ Ok n → Keeps b n 0 0
+parts_keep : (b n : Building) (parts : List Placed) → parts_of b parts ≡ Ok n → KeepsBuilding b n 0 0
 parts_keep b n [] is = made b b n 0 0 _ (same b b refl refl refl refl) refl is
 parts_keep b n (p ∷ parts) is =
     let first = bound (part_of b p.what) (λ next. parts_of next parts) n is in
     both b first.0 n 0 0 0 0 (part_keeps b first.0 p.what first.1) (parts_keep first.0 n parts first.2)
 
-tower_keeps : (b n : Building) (line depth pages : ℕ) (which : Sample) → towered_of b line depth pages which ≡ Ok n → Keeps b n 0 0
+tower_keeps : (b n : Building) (line depth pages : ℕ) (which : Sample) → towered_of b line depth pages which ≡ Ok n → KeepsBuilding b n 0 0
 tower_keeps b n line depth pages which is =
     let first = passed (b.towered || is_some (named (codes "top") b.names)) (parts_of b (tower_of depth pages which line) >>= λ next. top_of next depth) kind.Repeat n is in
     let made_parts = bound (parts_of b (tower_of depth pages which line)) (λ next. top_of next depth) n first.1 in
     both b made_parts.0 n 0 0 0 0 (parts_keep b made_parts.0 (tower_of depth pages which line) made_parts.1) (top made_parts.0 made_parts.2)
   where
-    top : (m : Building) → top_of m depth ≡ Ok n → Keeps m n 0 0
+    top : (m : Building) → top_of m depth ≡ Ok n → KeepsBuilding m n 0 0
     top m is =
         let found = bound (known (level_name depth) m.names) (λ k. Ok (with_top m k)) n is in
         made m (with_top m found.0) n 0 0 _ (same m (with_top m found.0) refl refl refl refl) refl found.2
 
 -- each directive keeps the storage's and the harts' number, and asks for no more than what it is
-pub done_keeps : (b n : Building) (line : ℕ) (what : Directive) → done_of b line what ≡ Ok n → Keeps b n (cond (is_watch what) 1 0) (cond (is_dump what) 1 0)
+pub done_keeps : (b n : Building) (line : ℕ) (what : Directive) → done_of b line what ≡ Ok n → KeepsBuilding b n (cond (is_watch what) 1 0) (cond (is_dump what) 1 0)
 done_keeps b n line (directive.Hart hart pc) is = hart_keeps b n hart pc is
 done_keeps b n line (directive.Machine name parent block pages table at) is = machine_keeps b n name parent block pages table at is
 done_keeps b n line (directive.Map name page entry) is = mapped_keeps b n name page entry is
@@ -274,12 +274,12 @@ and_then_bound : {A B : Type 0} (r : Result A (ℕ × BuildKind)) (f : A → Res
 and_then_bound (Ok x) f y is = (x, refl, is)
 and_then_bound (Err end) f y is = absurd (failed end y (Err end) refl is)
 
-counted : (b n : Building) (p : Placed) (lines : List Placed) → Keeps b n (cond (is_watch p.what) 1 0 + count_of is_watch lines) (cond (is_dump p.what) 1 0 + count_of is_dump lines) → Keeps b n (count_of is_watch (p ∷ lines)) (count_of is_dump (p ∷ lines))
+counted : (b n : Building) (p : Placed) (lines : List Placed) → KeepsBuilding b n (cond (is_watch p.what) 1 0 + count_of is_watch lines) (cond (is_dump p.what) 1 0 + count_of is_dump lines) → KeepsBuilding b n (count_of is_watch (p ∷ lines)) (count_of is_dump (p ∷ lines))
 counted b n p lines keeps =
-    subst (λ (w : ℕ). Keeps b n w (count_of is_dump (p ∷ lines))) (sym (sum_by-cons (λ (placed : Placed). cond (is_watch placed.what) 1 0) p lines))
-    (subst (Keeps b n (cond (is_watch p.what) 1 0 + count_of is_watch lines)) (sym (sum_by-cons (λ (placed : Placed). cond (is_dump placed.what) 1 0) p lines)) keeps)
+    subst (λ (w : ℕ). KeepsBuilding b n w (count_of is_dump (p ∷ lines))) (sym (sum_by-cons (λ (placed : Placed). cond (is_watch placed.what) 1 0) p lines))
+    (subst (KeepsBuilding b n (cond (is_watch p.what) 1 0 + count_of is_watch lines)) (sym (sum_by-cons (λ (placed : Placed). cond (is_dump placed.what) 1 0) p lines)) keeps)
 
-lines_keep : (b n : Building) (lines : List Placed) → built_from b lines ≡ Ok n → Keeps b n (count_of is_watch lines) (count_of is_dump lines)
+lines_keep : (b n : Building) (lines : List Placed) → built_from b lines ≡ Ok n → KeepsBuilding b n (count_of is_watch lines) (count_of is_dump lines)
 unfolding built_from
 lines_keep b n [] is = made b b n 0 0 _ (same b b refl refl refl refl) refl is
 lines_keep b n (p ∷ lines) is =
@@ -328,7 +328,7 @@ unfolding build_of zeros
 ready job start is_job is =
     let lines = and_then_bound (built_from (nothing_built job.pages job.harts) job.lines) (end_of job.commands) start is in
     let b : Building = lines.0 in
-    let keeps : Keeps (nothing_built job.pages job.harts) b (count_of is_watch job.lines) (count_of is_dump job.lines) = lines_keep (nothing_built job.pages job.harts) b job.lines lines.1 in
+    let keeps : KeepsBuilding (nothing_built job.pages job.harts) b (count_of is_watch job.lines) (count_of is_dump job.lines) = lines_keep (nothing_built job.pages job.harts) b job.lines lines.1 in
     let end = unfaulted b (watch_fault b.storage b.watches) start (unrefused b (command_fault b job.commands) start lines.2) in
     let harts : length b.harts ≡ job.harts = keeps.harts ∙ length-replicate job.harts reset_regs in
     let asked : All (IsAsked (length (nothing_built job.pages job.harts).harts)) b.watches = keeps.asked (λ k d lt. absurd (omega arith)) in

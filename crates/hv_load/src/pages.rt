@@ -4,7 +4,7 @@ ghost use Rattle.std.specs.Prelude.{◌≡◌, ◌*◌, ◌+◌, ◌-◌, ◌/�
 ghost use Rattle.hv_word.specs.Storage.{page_count};
 ghost use Rattle.hv_map.specs.Chain.{map_along, map_of};
 ghost use Rattle.hv_limits.specs.Limits.{depth_limit};
-ghost use Rattle.hv_map.specs.Levels.{IsWayWithin, IsWithin};
+ghost use Rattle.hv_map.specs.Levels.{IsWayWithin, IsSlotWithin};
 ghost use Rattle.hv_map.specs.Compose.{reading, table_of};
 ghost use Rattle.hv_load.specs.Pages.{block_page as block_page_of, opened as opened_by, outer as outer_of, page_named, reads_in, table_word_of, word_named, writes_in};
 
@@ -18,7 +18,7 @@ use hv_word::field;
 // The slot of a page of the chain's machine, none where it has no such page.
 fn slot(store: &Store, chain: &Chain, page: u64) -> Option<Slot>
     ensures slot { result ≡ slice_get (map_along store.now chain.now) page }
-    ensures within { IfSome result (λ s. IsWithin (page_count store.now) (length chain.now) s) }
+    ensures within { IfSome result (λ s. IsSlotWithin (page_count store.now) (length chain.now) s) }
 {
     if page >= u64::from(chain.pages(store)) {
         return None;

@@ -4,7 +4,7 @@ use Rattle.std.proofs.lemmas.Bool.Decides.{eqb_tells}
 use Rattle.std.proofs.lemmas.List.Folds.{list_any-append}
 use Rattle.hv_map.specs.Apart.{has}
 use Rattle.hv_map.specs.Held.{Lists}
-use Rattle.hv_map.specs.Noted.{Listed, noted_limit, with_page, with_pages}
+use Rattle.hv_map.specs.Gathered.{Listed, listed_limit, with_page, with_pages}
 
 same_number : (g : ℕ) → (g == g) ≡ true
 same_number g = elim (eqb_tells g g) [ inl e ↦ e.0 | inr e ↦ absurd (e.1 refl) ]
@@ -47,7 +47,7 @@ made_lists p g false false is e = has_pushed g p.pages
 
 with_page_keeps : (p : Listed) (g h : ℕ) → has h p.pages ≡ true → has h (with_page p g).pages ≡ true
 unfolding made
-with_page_keeps p g h e = made_keeps p g h (has g p.pages) (length p.pages == noted_limit) e
+with_page_keeps p g h e = made_keeps p g h (has g p.pages) (length p.pages == listed_limit) e
 
 with_pages_keeps : (p : Listed) (gs : List ℕ) (h : ℕ) → has h p.pages ≡ true → has h (with_pages p gs).pages ≡ true
 unfolding with_pages
@@ -58,7 +58,7 @@ with_pages_full : (p : Listed) (gs : List ℕ) → p.full ≡ true → (with_pag
 unfolding with_pages made
 with_pages_full p [] e = e
 with_pages_full p (g ∷ gs) e =
-    with_pages_full (with_page p g) gs (made_full p g (has g p.pages) (length p.pages == noted_limit) e)
+    with_pages_full (with_page p g) gs (made_full p g (has g p.pages) (length p.pages == listed_limit) e)
 
 room_before : (p : Listed) (gs : List ℕ) → (with_pages p gs).full ≡ false → p.full ≡ false
 room_before p gs e = go p.full refl
@@ -76,6 +76,6 @@ unfolding with_pages made
 lists_all p [] e = tt
 lists_all p (g ∷ gs) e =
     let room : (with_page p g).full ≡ false = room_before (with_page p g) gs e in (
-      with_pages_keeps (with_page p g) gs g (made_lists p g (has g p.pages) (length p.pages == noted_limit) refl room),
+      with_pages_keeps (with_page p g) gs g (made_lists p g (has g p.pages) (length p.pages == listed_limit) refl room),
       lists_all (with_page p g) gs e,
     )

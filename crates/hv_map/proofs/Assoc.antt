@@ -10,11 +10,11 @@ use Rattle.hv_store.specs.declared.access.Way.{Way}
 use Rattle.hv_store.specs.declared.access.Way.TheVariants.{Open, Shut}
 use Rattle.hv_store.specs.Access.{identity}
 use Rattle.hv_store.proofs.Identity.{length-identity}
-use Rattle.hv_block.specs.Block.{Held, block_of}
+use Rattle.hv_block.specs.Block.{Contents, block_of}
 use Rattle.hv_block.proofs.Blocks.{block_alike, block_sized}
 use Rattle.hv_map.specs.Item.{Item}
 use Rattle.hv_map.specs.Compose.{compose}
-use Rattle.hv_map.specs.Chain.{along, map_along, child_held, child_through, child_at, child_of, option_cons, machines, pin_of, map_of}
+use Rattle.hv_map.specs.Chain.{along, map_along, child_with, child_through, child_at, child_of, option_cons, machines, pin_of, map_of}
 use Rattle.hv_map.specs.Seen.{seen}
 use Rattle.hv_map.specs.Carried.{WayLike, SlotLike, MapLike, ShutBelow, OpensSame, Agree}
 use Rattle.hv_map.proofs.Slots.{length-composed, along-append}
@@ -97,21 +97,21 @@ pub record Twin (o : Option Item) (x : Item) : Type 0 where
   pub bound : x.pages ≤ 1048576
 
 module _ (k : ℕ) (F : List Slot) (S T : List ℕ) (below : ShutBelow k F) (same : OpensSame F) (agree : Agree F S T) where
-  held_twin : (s g y : ℕ) (x : Item) → block_of S g ≡ block_of T y → child_held s g (block_of S g) ≡ Some x → Twin (child_held s y (block_of T y)) x
+  held_twin : (s g y : ℕ) (x : Item) → block_of S g ≡ block_of T y → child_with s g (block_of S g) ≡ Some x → Twin (child_with s y (block_of T y)) x
   held_twin s g y x alike e = go (block_of S g) refl e
     where
-      go : (o : Option Held) → block_of S g ≡ o → child_held s g o ≡ Some x → Twin (child_held s y (block_of T y)) x
+      go : (o : Option Contents) → block_of S g ≡ o → child_with s g o ≡ Some x → Twin (child_with s y (block_of T y)) x
       go None is f = absurd (let h : None ≡ Some x = f in cc)
-      go (Some held) is f =
-          let made : record { syllable = s; block = g; pages = held.pages; table = held.table; version = held.version } ≡ x =
-          same_Some record { syllable = s; block = g; pages = held.pages; table = held.table; version = held.version } x f in
-          subst (Twin (child_held s y (block_of T y))) made record {
-            twin = record { syllable = s; block = y; pages = held.pages; table = held.table; version = held.version };
-            there = ap (child_held s y) (sym alike ∙ is);
+      go (Some contents) is f =
+          let made : record { syllable = s; block = g; pages = contents.pages; table = contents.table; version = contents.version } ≡ x =
+          same_Some record { syllable = s; block = g; pages = contents.pages; table = contents.table; version = contents.version } x f in
+          subst (Twin (child_with s y (block_of T y))) made record {
+            twin = record { syllable = s; block = y; pages = contents.pages; table = contents.table; version = contents.version };
+            there = ap (child_with s y) (sym alike ∙ is);
             pages = refl;
             table = refl;
             version = refl;
-            bound = (block_sized S g held is).pages;
+            bound = (block_sized S g contents is).pages;
           }
 
   through_twin : (s : ℕ) (x : Item) (h g : Way) → WayLike k F Write h g → child_through S s h ≡ Some x → Twin (child_through T s g) x

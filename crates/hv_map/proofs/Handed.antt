@@ -9,7 +9,7 @@ use Rattle.hv_store.specs.declared.access.Slot.{Slot}
 use Rattle.hv_store.specs.declared.access.Way.{Way}
 use Rattle.hv_store.specs.declared.access.Way.TheVariants.{Open, Shut}
 use Rattle.hv_store.specs.Access.{way_for}
-use Rattle.hv_map.specs.Compose.{Looked, Named, Stopped, present, look, page_named, table_of, word_in, entry_of, no_write, no_fetch, every, granted, placed, slot_of, reading, compose_slot, compose}
+use Rattle.hv_map.specs.Compose.{Looked, Named, Stopped, present, look, page_named, table_of, word_in, entry_of, no_write, no_fetch, every, granted, slot_through, slot_of, reading, compose_slot, compose}
 use Rattle.hv_map.specs.Carried.{Opens, ShutAt, OpensSame}
 use Rattle.hv_map.proofs.Slots.{composed_at}
 
@@ -62,7 +62,7 @@ module _ (S : List ℕ) (F : List Slot) (j : ℕ) (R : Slot → Type 0) (facts :
   word_stops i (Named u) h = look_stops i (i % 1024) u (reading F u) refl
   word_stops i (Stopped way) h = h
 
-  placed_holds : (v i e q : ℕ) (o : Option Slot) → slice_get F q ≡ o → R (placed j v i e o)
+  placed_holds : (v i e q : ℕ) (o : Option Slot) → slice_get F q ≡ o → R (slot_through j v i e o)
   placed_holds v i e q None p = facts.own 3 i
   placed_holds v i e q (Some s) p = facts.kept q v e i s p
 

@@ -9,18 +9,18 @@ use Rattle.hv_word.specs.Storage.{page_count}
 use Rattle.hv_cpu.specs.Regs.{Regs}
 use Rattle.hv_store.specs.declared.access.Slot.{Slot}
 use Rattle.hv_store.specs.Access.{identity}
-use Rattle.hv_block.specs.Block.{Held, block_of, regs_at}
+use Rattle.hv_block.specs.Block.{Contents, block_of, regs_at}
 use Rattle.hv_block.proofs.Blocks.{block_sized}
 use Rattle.hv_map.specs.Apart.{has}
-use Rattle.hv_map.specs.Chain.{map_along, child_held, child_through, child_at, child_of, machines, pin_of, child_next, run_on, running, running_path}
+use Rattle.hv_map.specs.Chain.{map_along, child_with, child_through, child_at, child_of, machines, pin_of, child_next, run_on, running, running_path}
 use Rattle.hv_map.specs.Compose.{compose}
 use Rattle.hv_map.specs.Held.{Lists, SamePage, SamePages, SaysItem, SaysItems, SameNexts, IsPlaced, Placed, Nexts, IsPin, IsHeld, IsRight}
 use Rattle.hv_map.specs.Item.{Item}
-use Rattle.hv_map.specs.Noted.{Listed, Noted, slots_of, pages_noted, pages_read, notes, bare_notes, notes_along, block_pages, pin_pages}
+use Rattle.hv_map.specs.Gathered.{Listed, Gathered, slots_of, pages_gathered, pages_read, gathered_map, bare_gathered_map, gathered_along, block_pages, pin_pages}
 use Rattle.hv_map.specs.Words.{syllables}
 use Rattle.hv_map.proofs.Assoc.{begins_with, begins_from}
-use Rattle.hv_map.proofs.Notes.{slots-bare, slots-notes, slots-along}
-use Rattle.hv_map.proofs.Rest.{first_all, second_all, KeepsMap, keeps_found, kept_notes, kept_bare, kept_from}
+use Rattle.hv_map.proofs.GatheredMaps.{slots-bare, slots-gathered_map, slots-along}
+use Rattle.hv_map.proofs.Rest.{first_all, second_all, KeepsMap, keeps_found, kept_gathered_map, kept_bare, kept_from}
 use Rattle.hv_map.proofs.Words.{follows}
 
 -- a listed page is the same where all listed pages are
@@ -39,7 +39,7 @@ listed_all S T p (g ∷ gs) lists same = (listed_same S T g p.pages lists.0 same
 says_size : (S : List ℕ) (x : Item) → SaysItem S x → x.pages ≤ 2 ^ 20
 says_size S x e = go (block_of S x.block) refl e
   where
-    go : (o : Option Held) → block_of S x.block ≡ o → child_held x.syllable x.block o ≡ Some x → x.pages ≤ 2 ^ 20
+    go : (o : Option Contents) → block_of S x.block ≡ o → child_with x.syllable x.block o ≡ Some x → x.pages ≤ 2 ^ 20
     go None is f = absurd (let h : None ≡ Some x = f in cc)
     go (Some held) is f =
         let same : held.pages ≡ x.pages = ap (λ (y : Item). y.pages) (same_Some _ x f) in
@@ -50,7 +50,7 @@ says_sizes S [] says = tt
 says_sizes S (x ∷ xs) says = (says_size S x says.0, says_sizes S xs says.1)
 
 -- the machines stay where they are
-placed_stays : (S T : List ℕ) (M N : List Noted) (p : Listed) (j : ℕ) (items : List Item)
+placed_stays : (S T : List ℕ) (M N : List Gathered) (p : Listed) (j : ℕ) (items : List Item)
     → KeepsMap S T M N
     → SamePages S T p.pages
     → SaysItems T items
@@ -60,14 +60,14 @@ placed_stays S T M N p j [] keeps same says placed = tt
 placed_stays S T M N p j (x ∷ xs) keeps same says placed =
     let a = placed.0 in (
       record {
-        note = a.note;
-        found = keeps_found S T M N x.syllable a.note keeps a.found (listed_all S T p a.note.pages a.listed same);
+        gathered = a.gathered;
+        found = keeps_found S T M N x.syllable a.gathered keeps a.found (listed_all S T p a.gathered.pages a.listed same);
         opens = a.opens;
         listed = a.listed;
         says = says.0;
       },
-      placed_stays S T (notes S M j x.pages x.table x.version) (notes T N j x.pages x.table x.version) p (j + 1) xs
-          (kept_notes S T M N keeps j x.pages x.table x.version (says_size T x says.0)) same says.1 placed.1,
+      placed_stays S T (gathered_map S M j x.pages x.table x.version) (gathered_map T N j x.pages x.table x.version) p (j + 1) xs
+          (kept_gathered_map S T M N keeps j x.pages x.table x.version (says_size T x says.0)) same says.1 placed.1,
     )
 
 pub held_stays : (S T : List ℕ) (items : List Item) (p : Listed) (page : ℕ) (slot : Slot)
@@ -76,16 +76,16 @@ pub held_stays : (S T : List ℕ) (items : List Item) (p : Listed) (page : ℕ) 
     → SaysItems T items
     → IsHeld S items p page slot
     → IsHeld T items p page slot
-unfolding notes_along
+unfolding gathered_along
 held_stays S T items p page slot long same says held =
     let bare = kept_bare S T long in
     record {
-      placed = placed_stays S T (bare_notes (page_count S)) (bare_notes (page_count T)) p 0 items bare same says held.placed;
-      note = held.note;
+      placed = placed_stays S T (bare_gathered_map (page_count S)) (bare_gathered_map (page_count T)) p 0 items bare same says held.placed;
+      gathered = held.gathered;
       found =
-          keeps_found S T (notes_along S items) (notes_along T items) page held.note
-          (kept_from S T (bare_notes (page_count S)) (bare_notes (page_count T)) 0 items bare (says_sizes T items says))
-          held.found (listed_all S T p held.note.pages held.listed same);
+          keeps_found S T (gathered_along S items) (gathered_along T items) page held.gathered
+          (kept_from S T (bare_gathered_map (page_count S)) (bare_gathered_map (page_count T)) 0 items bare (says_sizes T items says))
+          held.found (listed_all S T p held.gathered.pages held.listed same);
       same = held.same;
       listed = held.listed;
     }
@@ -106,35 +106,35 @@ pub pin_stays : (S T : List ℕ) (r q : Regs) (items : List Item) (p : Listed)
     → IsPin T q items p
 pin_stays S T r q items p long same says nexts e pin = record {
   short = pin.short;
-  placed = placed_stays S T (bare_notes (page_count S)) (bare_notes (page_count T)) p 0 items (kept_bare S T long) same says pin.placed;
+  placed = placed_stays S T (bare_gathered_map (page_count S)) (bare_gathered_map (page_count T)) p 0 items (kept_bare S T long) same says pin.placed;
   nexts = nexts_stay S T r q items nexts e pin.nexts;
 }
 
 -- a machine that is placed is the child on its page
-placed_child : (S : List ℕ) (N : List Noted) (p : Listed) (x : Item) → IsPlaced S N p x → child_of S (slots_of N) x.syllable ≡ Some x
+placed_child : (S : List ℕ) (N : List Gathered) (p : Listed) (x : Item) → IsPlaced S N p x → child_of S (slots_of N) x.syllable ≡ Some x
 placed_child S N p x placed =
     ap (child_at S x.syllable)
-    (slice_get-map (λ (n : Noted). n.slot) N x.syllable ∙ ap (option_map (λ (n : Noted). n.slot)) placed.found)
+    (slice_get-map (λ (n : Gathered). n.slot) N x.syllable ∙ ap (option_map (λ (n : Gathered). n.slot)) placed.found)
     ∙ ap (child_through S x.syllable) placed.opens
     ∙ placed.says
 
-placed_machines : (S : List ℕ) (N : List Noted) (F : List Slot) (p : Listed) (j : ℕ) (items : List Item) → slots_of N ≡ F → Placed S N p j items → machines S F j (syllables items) ≡ Some items
+placed_machines : (S : List ℕ) (N : List Gathered) (F : List Slot) (p : Listed) (j : ℕ) (items : List Item) → slots_of N ≡ F → Placed S N p j items → machines S F j (syllables items) ≡ Some items
 unfolding machines
 placed_machines S N F p j [] is placed = refl
 placed_machines S N F p j (x ∷ xs) is placed =
     let child : child_of S F x.syllable ≡ Some x =
     ap (λ (G : List Slot). child_of S G x.syllable) (sym is) ∙ placed_child S N p x placed.0
     in
-    let deeper : slots_of (notes S N j x.pages x.table x.version) ≡ compose S F j x.pages x.table x.version =
-    slots-notes S N j x.pages x.table x.version ∙ ap (λ (G : List Slot). compose S G j x.pages x.table x.version) is
+    let deeper : slots_of (gathered_map S N j x.pages x.table x.version) ≡ compose S F j x.pages x.table x.version =
+    slots-gathered_map S N j x.pages x.table x.version ∙ ap (λ (G : List Slot). compose S G j x.pages x.table x.version) is
     in
     begins_from S F j x.syllable (syllables xs) x xs child
-    (placed_machines S (notes S N j x.pages x.table x.version) (compose S F j x.pages x.table x.version) p (j + 1) xs deeper placed.1)
+    (placed_machines S (gathered_map S N j x.pages x.table x.version) (compose S F j x.pages x.table x.version) p (j + 1) xs deeper placed.1)
 
-pub placed_pin : (S : List ℕ) (items : List Item) (p : Listed) → Placed S (bare_notes (page_count S)) p 0 items → pin_of S (syllables items) ≡ Some items
+pub placed_pin : (S : List ℕ) (items : List Item) (p : Listed) → Placed S (bare_gathered_map (page_count S)) p 0 items → pin_of S (syllables items) ≡ Some items
 unfolding pin_of
 placed_pin S items p placed =
-    placed_machines S (bare_notes (page_count S)) (identity (page_count S)) p 0 items (slots-bare (page_count S)) placed
+    placed_machines S (bare_gathered_map (page_count S)) (identity (page_count S)) p 0 items (slots-bare (page_count S)) placed
 
 pub held_right : (S : List ℕ) (items : List Item) (p : Listed) (page : ℕ) (slot : Slot)
     → IsHeld S items p page slot
@@ -143,8 +143,8 @@ held_right S items p page slot held =
     let there : pin_of S (syllables items) ≡ Some items = placed_pin S items p held.placed in
     let has_slot : slice_get (map_along S items) page ≡ Some slot =
     ap (λ (F : List Slot). slice_get F page) (sym (slots-along S items))
-    ∙ slice_get-map (λ (n : Noted). n.slot) (notes_along S items) page
-    ∙ ap (option_map (λ (n : Noted). n.slot)) held.found
+    ∙ slice_get-map (λ (n : Gathered). n.slot) (gathered_along S items) page
+    ∙ ap (option_map (λ (n : Gathered). n.slot)) held.found
     ∙ ap Some held.same in
     (there, (map_along S items, ap (option_map (map_along S)) there, has_slot))
 
@@ -153,7 +153,7 @@ next_runs : (S : List ℕ) (F : List Slot) (next s : ℕ) → next ≡ s → 0 <
 next_runs S F next zero e some = absurd (omega arith)
 next_runs S F next (suc s) e some = ap (child_next S F) e
 
-placed_runs : (n : ℕ) (S : List ℕ) (N : List Noted) (F : List Slot) (p : Listed) (j : ℕ) (r : Regs) (items : List Item)
+placed_runs : (n : ℕ) (S : List ℕ) (N : List Gathered) (F : List Slot) (p : Listed) (j : ℕ) (r : Regs) (items : List Item)
     → slots_of N ≡ F
     → length items ≤ n
     → Placed S N p j items
@@ -167,73 +167,73 @@ placed_runs (suc n) S N F p j r (x ∷ xs) is short placed nexts =
     let child : child_of S F x.syllable ≡ Some x =
     ap (λ (G : List Slot). child_of S G x.syllable) (sym is) ∙ placed_child S N p x placed.0
     in
-    let deeper : slots_of (notes S N j x.pages x.table x.version) ≡ compose S F j x.pages x.table x.version =
-    slots-notes S N j x.pages x.table x.version ∙ ap (λ (G : List Slot). compose S G j x.pages x.table x.version) is
+    let deeper : slots_of (gathered_map S N j x.pages x.table x.version) ≡ compose S F j x.pages x.table x.version =
+    slots-gathered_map S N j x.pages x.table x.version ∙ ap (λ (G : List Slot). compose S G j x.pages x.table x.version) is
     in
     ap (run_on (running n) S F j) (next_runs S F r.next x.syllable nexts.0.0 nexts.0.1 ∙ child)
     ∙ ap (λ (path : List ℕ). x.syllable ∷ path)
-    (placed_runs n S (notes S N j x.pages x.table x.version) (compose S F j x.pages x.table x.version) p (j + 1) (regs_at S x.block) xs deeper (omega arith) placed.1 nexts.1)
+    (placed_runs n S (gathered_map S N j x.pages x.table x.version) (compose S F j x.pages x.table x.version) p (j + 1) (regs_at S x.block) xs deeper (omega arith) placed.1 nexts.1)
 
 pub pin_right : (S : List ℕ) (r : Regs) (items : List Item) (p : Listed)
     → IsPin S r items p
     → (running_path S r ≡ syllables items) × (pin_of S (running_path S r) ≡ Some items)
 pin_right S r items p pin =
     let runs : running_path S r ≡ syllables items =
-    placed_runs depth_limit S (bare_notes (page_count S)) (identity (page_count S)) p 0 r items (slots-bare (page_count S)) pin.short pin.placed pin.nexts
+    placed_runs depth_limit S (bare_gathered_map (page_count S)) (identity (page_count S)) p 0 r items (slots-bare (page_count S)) pin.short pin.placed pin.nexts
     in
     (runs, ap (pin_of S) runs ∙ placed_pin S items p pin.placed)
 
 -- and what is found on a path is placed, where it is listed
-record Noticed (N : List Noted) (u : ℕ) (s : Slot) : Type 0 where
-  note : Noted
-  found : slice_get N u ≡ Some note
-  slot : note.slot ≡ s
+record Noticed (N : List Gathered) (u : ℕ) (s : Slot) : Type 0 where
+  gathered : Gathered
+  found : slice_get N u ≡ Some gathered
+  slot : gathered.slot ≡ s
 
-noticed : (N : List Noted) (F : List Slot) (u : ℕ) (s : Slot) → slots_of N ≡ F → slice_get F u ≡ Some s → Noticed N u s
+noticed : (N : List Gathered) (F : List Slot) (u : ℕ) (s : Slot) → slots_of N ≡ F → slice_get F u ≡ Some s → Noticed N u s
 noticed N F u s is e =
-    go (slice_get N u) refl (sym (slice_get-map (λ (n : Noted). n.slot) N u) ∙ ap (λ (G : List Slot). slice_get G u) is ∙ e)
+    go (slice_get N u) refl (sym (slice_get-map (λ (n : Gathered). n.slot) N u) ∙ ap (λ (G : List Slot). slice_get G u) is ∙ e)
   where
-    go : (o : Option Noted) → slice_get N u ≡ o → option_map (λ (n : Noted). n.slot) o ≡ Some s → Noticed N u s
+    go : (o : Option Gathered) → slice_get N u ≡ o → option_map (λ (n : Gathered). n.slot) o ≡ Some s → Noticed N u s
     go None there f = absurd (let h : None ≡ Some s = f in cc)
-    go (Some n) there f = record { note = n; found = there; slot = same_Some n.slot s f }
+    go (Some n) there f = record { gathered = n; found = there; slot = same_Some n.slot s f }
 
-child_is_placed : (S : List ℕ) (N : List Noted) (F : List Slot) (p : Listed) (s : ℕ) (x : Item) → slots_of N ≡ F → child_of S F s ≡ Some x → Lists p (pages_read N x.syllable) → IsPlaced S N p x
+child_is_placed : (S : List ℕ) (N : List Gathered) (F : List Slot) (p : Listed) (s : ℕ) (x : Item) → slots_of N ≡ F → child_of S F s ≡ Some x → Lists p (pages_read N x.syllable) → IsPlaced S N p x
 child_is_placed S N F p s x is e lists =
     let f = follows S F s x e in
     let c = f.child in
     let n = noticed N F x.syllable c.slot is c.there in
     record {
-      note = n.note;
+      gathered = n.gathered;
       found = n.found;
       opens = ap (λ (t : Slot). t.write) n.slot ∙ c.writes;
-      listed = subst (λ (o : Option Noted). Lists p (pages_noted o)) n.found lists;
+      listed = subst (λ (o : Option Gathered). Lists p (pages_gathered o)) n.found lists;
       says =
           sym (ap (child_at S x.syllable) c.there ∙ ap (child_through S x.syllable) c.writes)
           ∙ ap (child_of S F) f.syllable
           ∙ e;
     }
 
-machines_placed : (S : List ℕ) (N : List Noted) (F : List Slot) (p : Listed) (j : ℕ) (path : List ℕ) (items : List Item) → slots_of N ≡ F → machines S F j path ≡ Some items → Lists p (block_pages S N j items) → Placed S N p j items
+machines_placed : (S : List ℕ) (N : List Gathered) (F : List Slot) (p : Listed) (j : ℕ) (path : List ℕ) (items : List Item) → slots_of N ≡ F → machines S F j path ≡ Some items → Lists p (block_pages S N j items) → Placed S N p j items
 unfolding machines block_pages
 machines_placed S N F p j [] items is e lists = subst (Placed S N p j) (same_Some [] items e) tt
 machines_placed S N F p j (s ∷ path) items is e lists =
     let b = begins_with S F j s path items e in
     let x : Item = b.head in
     let all = subst (λ (xs : List Item). Lists p (block_pages S N j xs)) (sym b.whole) lists in
-    let rest = block_pages S (notes S N j x.pages x.table x.version) (j + 1) b.rest in
-    let deeper : slots_of (notes S N j x.pages x.table x.version) ≡ compose S F j x.pages x.table x.version =
-    slots-notes S N j x.pages x.table x.version ∙ ap (λ (G : List Slot). compose S G j x.pages x.table x.version) is
+    let rest = block_pages S (gathered_map S N j x.pages x.table x.version) (j + 1) b.rest in
+    let deeper : slots_of (gathered_map S N j x.pages x.table x.version) ≡ compose S F j x.pages x.table x.version =
+    slots-gathered_map S N j x.pages x.table x.version ∙ ap (λ (G : List Slot). compose S G j x.pages x.table x.version) is
     in
     subst (Placed S N p j) b.whole (
       child_is_placed S N F p s x is b.child (first_all (λ g. has g p.pages ≡ true) (pages_read N x.syllable) rest all),
-      machines_placed S (notes S N j x.pages x.table x.version) (compose S F j x.pages x.table x.version) p (j + 1) path b.rest deeper b.others
+      machines_placed S (gathered_map S N j x.pages x.table x.version) (compose S F j x.pages x.table x.version) p (j + 1) path b.rest deeper b.others
           (second_all (λ g. has g p.pages ≡ true) (pages_read N x.syllable) rest all),
     )
 
 pub pin_placed : (S path : List ℕ) (items : List Item) (p : Listed)
     → pin_of S path ≡ Some items
     → Lists p (pin_pages S items)
-    → Placed S (bare_notes (page_count S)) p 0 items
+    → Placed S (bare_gathered_map (page_count S)) p 0 items
 unfolding pin_of pin_pages
 pin_placed S path items p e lists =
-    machines_placed S (bare_notes (page_count S)) (identity (page_count S)) p 0 path items (slots-bare (page_count S)) e lists
+    machines_placed S (bare_gathered_map (page_count S)) (identity (page_count S)) p 0 path items (slots-bare (page_count S)) e lists

@@ -8,7 +8,7 @@ pub mod Like
 pub mod Listing
 pub mod Lists
 pub mod Machines
-pub mod Notes
+pub mod GatheredMaps
 pub mod Outwards
 pub mod Pins
 pub mod Rest

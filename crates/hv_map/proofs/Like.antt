@@ -12,8 +12,8 @@ use Rattle.hv_store.specs.declared.access.Slot.{Slot}
 use Rattle.hv_store.specs.declared.access.Way.{Way}
 use Rattle.hv_store.specs.declared.access.Way.TheVariants.{Open, Shut}
 use Rattle.hv_store.specs.Access.{way_for}
-use Rattle.hv_map.specs.Compose.{Looked, Named, Stopped, present, look, page_named, table_of, word_in, entry_of, no_write, no_fetch, every, placed, slot_of, reading, compose_slot, compose}
-use Rattle.hv_map.specs.Carried.{IsBelow, IsCarried, WayLike, SlotLike, MapLike, ShutBelow, Agree}
+use Rattle.hv_map.specs.Compose.{Looked, Named, Stopped, present, look, page_named, table_of, word_in, entry_of, no_write, no_fetch, every, slot_through, slot_of, reading, compose_slot, compose}
+use Rattle.hv_map.specs.Carried.{IsShutBelow, IsCarried, WayLike, SlotLike, MapLike, ShutBelow, Agree}
 use Rattle.hv_map.proofs.Slots.{slice_get-composed, length-composed}
 
 -- the way h is the shut way g with its level raised by k
@@ -23,7 +23,7 @@ IsRaised k h (Shut l c p w) = h ≡ Shut (l + k) c p w
 
 abbrev IsStoppedBelow : ℕ → Looked → Type 0
 IsStoppedBelow k (Named e) = ⊥
-IsStoppedBelow k (Stopped way) = IsBelow k way
+IsStoppedBelow k (Stopped way) = IsShutBelow k way
 
 abbrev LookedSame : ℕ → Looked → Looked → Type 0
 LookedSame k (Named e) (Named e') = e ≡ e'
@@ -112,7 +112,7 @@ module _ (k : ℕ) (F : List Slot) (S T : List ℕ) (below : ShutBelow k F) (agr
     chosen_like true j c i a h g e = inr refl
     chosen_like false j c i a h g e = e
 
-    placed_like : (j v i e : ℕ) (o p : Option Slot) → SlotLike k F o p → (a : Access) → WayLike k F a (way_for (placed (j + k) v i e o) a) (way_for (placed j v i e p) a)
+    placed_like : (j v i e : ℕ) (o p : Option Slot) → SlotLike k F o p → (a : Access) → WayLike k F a (way_for (slot_through (j + k) v i e o) a) (way_for (slot_through j v i e p) a)
     placed_like j v i e None None h Read = inr refl
     placed_like j v i e None None h Write = inr refl
     placed_like j v i e None None h Fetch = inr refl
@@ -122,7 +122,7 @@ module _ (k : ℕ) (F : List Slot) (S T : List ℕ) (below : ShutBelow k F) (agr
     placed_like j v i e (Some s) (Some g) h Write = chosen_like (no_write e) j 2 i Write s.write g.write (h Write)
     placed_like j v i e (Some s) (Some g) h Fetch = chosen_like (no_fetch v e) j 7 i Fetch s.fetch g.fetch (h Fetch)
 
-    below_like : (h : Way) (a : Access) → IsBelow k h → IsBelow k (way_for (every h) a)
+    below_like : (h : Way) (a : Access) → IsShutBelow k h → IsShutBelow k (way_for (every h) a)
     below_like h Read e = e
     below_like h Write e = e
     below_like h Fetch e = e

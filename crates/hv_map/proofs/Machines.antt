@@ -10,11 +10,11 @@ use Rattle.hv_store.specs.declared.access.Way.{Way}
 use Rattle.hv_store.specs.declared.access.Way.TheVariants.{Open, Shut}
 use Rattle.hv_store.specs.Access.{identity, open_at, way_for}
 use Rattle.hv_store.proofs.Identity.{length-identity, slice_get-identity}
-use Rattle.hv_block.specs.Block.{Held, block_of}
+use Rattle.hv_block.specs.Block.{Contents, block_of}
 use Rattle.hv_block.proofs.Blocks.{block_sized}
 use Rattle.hv_map.specs.Item.{Item}
 use Rattle.hv_map.specs.Compose.{compose}
-use Rattle.hv_map.specs.Chain.{child_held, child_through, child_at, child_of, machines, pin_of}
+use Rattle.hv_map.specs.Chain.{child_with, child_through, child_at, child_of, machines, pin_of}
 use Rattle.hv_map.specs.Links.{syllable_of, last_block}
 use Rattle.hv_map.proofs.Assoc.{begins_with, begins_from}
 use Rattle.hv_map.proofs.Handed.{composed_opens}
@@ -61,15 +61,15 @@ pub record Fits (P : ℕ) (x : Item) : Type 0 where
 child_fits : (P : ℕ) (S : List ℕ) (F : List Slot) (s : ℕ) (x : Item) → OpensBelow P F → child_of S F s ≡ Some x → Fits P x
 child_fits P S F s x below e = at (slice_get F s) refl e
   where
-    held : (slot : Slot) (g : ℕ) → slice_get F s ≡ Some slot → slot.write ≡ Open g → (o : Option Held) → block_of S g ≡ o → child_held s g o ≡ Some x → Fits P x
-    held slot g is w None b h = cc
-    held slot g is w (Some k) b h =
+    contents : (slot : Slot) (g : ℕ) → slice_get F s ≡ Some slot → slot.write ≡ Open g → (o : Option Contents) → block_of S g ≡ o → child_with s g o ≡ Some x → Fits P x
+    contents slot g is w None b h = cc
+    contents slot g is w (Some k) b h =
         let sized = block_sized S g k b in
         let same = same_Some record { syllable = s; block = g; pages = k.pages; table = k.table; version = k.version } x h in
         subst (Fits P) same record { block = below s slot Write g is w; pages = sized.pages }
 
     through : (slot : Slot) (way : Way) → slice_get F s ≡ Some slot → slot.write ≡ way → child_through S s way ≡ Some x → Fits P x
-    through slot (Open g) is w h = held slot g is w (block_of S g) refl h
+    through slot (Open g) is w h = contents slot g is w (block_of S g) refl h
     through slot (Shut l c p w) is q h = cc
 
     at : (o : Option Slot) → slice_get F s ≡ o → child_at S s o ≡ Some x → Fits P x

@@ -12,10 +12,10 @@ use Rattle.hv_store.specs.declared.access.Way.{Way}
 use Rattle.hv_store.specs.declared.access.Way.TheVariants.{Open, Shut}
 use Rattle.hv_store.specs.Access.{identity}
 use Rattle.hv_block.specs.declared.Block.{Block}
-use Rattle.hv_block.specs.Block.{Held, block_of}
+use Rattle.hv_block.specs.Block.{Contents, block_of}
 use Rattle.hv_map.specs.Item.{Item}
 use Rattle.hv_map.specs.Compose.{compose}
-use Rattle.hv_map.specs.Chain.{along, map_along, child_held, child_through, child_at, child_of, option_cons, machines, pin_of}
+use Rattle.hv_map.specs.Chain.{along, map_along, child_with, child_through, child_at, child_of, option_cons, machines, pin_of}
 use Rattle.hv_map.specs.declared.found.Found.{Found}
 use Rattle.hv_map.specs.declared.found.Found.TheVariants.{Child, Malformed, Refused}
 use Rattle.hv_map.specs.Found.{found_in, found_through, found_at, found_on, item_of}
@@ -32,12 +32,12 @@ child_found : (S : List ℕ) (F : List Slot) (s : ℕ) → item_found s (found_o
 unfolding item_found
 child_found S F s = at (slice_get F s)
   where
-    held : (g : ℕ) (o : Option Held) → item_found s (Some (found_in g o)) ≡ child_held s g o
-    held g None = refl
-    held g (Some h) = refl
+    contents : (g : ℕ) (o : Option Contents) → item_found s (Some (found_in g o)) ≡ child_with s g o
+    contents g None = refl
+    contents g (Some h) = refl
 
     through : (way : Way) → item_found s (Some (found_through S way)) ≡ child_through S s way
-    through (Open g) = held g (block_of S g)
+    through (Open g) = contents g (block_of S g)
     through (Shut l c p w) = refl
 
     at : (o : Option Slot) → item_found s (found_at S o) ≡ child_at S s o

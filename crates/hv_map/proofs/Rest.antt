@@ -1,4 +1,4 @@
--- A map with notes depends on the words of the noted pages alone.
+-- A map with gathered pages depends on their words alone.
 use Rattle.std.proofs.Common.{◌≡◌, ℕ, ◌+◌, ◌/◌, ◌%◌, ◌<◌, ◌≤◌, ◌^◌, inl, inr, Bool, true, false, cond, ◌==◌, List, [], ◌∷◌, ◌++◌, length, Option, Some, None, refl, ap, ap₂, ◌∙◌, sym, subst, arith, slice_get}
 use Rattle.std.specs.List.{AllByRecursion}
 use Rattle.std.specs.Option.{option_map}
@@ -10,10 +10,10 @@ use Rattle.hv_store.specs.declared.access.Slot.{Slot}
 use Rattle.hv_store.specs.declared.access.Way.{Way}
 use Rattle.hv_store.specs.declared.access.Way.TheVariants.{Open, Shut}
 use Rattle.hv_map.specs.Item.{Item}
-use Rattle.hv_map.specs.Compose.{Looked, Named, Stopped, present, look, page_named, table_of, word_in, entry_of, reading, placed, slot_of, compose_slot}
+use Rattle.hv_map.specs.Compose.{Looked, Named, Stopped, present, look, page_named, table_of, word_in, entry_of, reading, slot_through, slot_of, compose_slot}
 use Rattle.hv_map.specs.Held.{SamePage, SamePages}
-use Rattle.hv_map.specs.Noted.{Noted, slots_of, pages_noted, pages_read, pages_through, word_pages, directory_pages, table_word_pages, entry_pages, target_pages, note_slot, notes, bare_notes, notes_from, notes_along}
-use Rattle.hv_map.proofs.Notes.{length-notes, slice_get-notes}
+use Rattle.hv_map.specs.Gathered.{Gathered, slots_of, pages_gathered, pages_read, pages_through, word_pages, directory_pages, table_word_pages, entry_pages, target_pages, gathered_slot, gathered_map, bare_gathered_map, gathered_from, gathered_along}
+use Rattle.hv_map.proofs.GatheredMaps.{length-gathered_map, slice_get-gathered_map}
 
 -- the parts of a list of which all are alike
 pub first_all : (P : ℕ → Type 0) (xs ys : List ℕ) → AllByRecursion P (xs ++ ys) → AllByRecursion P xs
@@ -24,33 +24,33 @@ pub second_all : (P : ℕ → Type 0) (xs ys : List ℕ) → AllByRecursion P (x
 second_all P [] ys all = all
 second_all P (x ∷ xs) ys all = second_all P xs ys all.1
 
--- the way for reading that a note has
-way_noted : Option Noted → Option Way
-way_noted None = None
-way_noted (Some n) = Some n.slot.read
+-- the way for reading that a slot with gathered pages has
+way_gathered : Option Gathered → Option Way
+way_gathered None = None
+way_gathered (Some n) = Some n.slot.read
 
-reads_noted : (N : List Noted) (u : ℕ) → reading (slots_of N) u ≡ way_noted (slice_get N u)
-unfolding way_noted
-reads_noted N u = ap (option_map (λ (s : Slot). s.read)) (slice_get-map (λ (n : Noted). n.slot) N u) ∙ same (slice_get N u)
+reads_gathered : (N : List Gathered) (u : ℕ) → reading (slots_of N) u ≡ way_gathered (slice_get N u)
+unfolding way_gathered
+reads_gathered N u = ap (option_map (λ (s : Slot). s.read)) (slice_get-map (λ (n : Gathered). n.slot) N u) ∙ same (slice_get N u)
   where
-    same : (o : Option Noted) → option_map (λ (s : Slot). s.read) (option_map (λ (n : Noted). n.slot) o) ≡ way_noted o
+    same : (o : Option Gathered) → option_map (λ (s : Slot). s.read) (option_map (λ (n : Gathered). n.slot) o) ≡ way_gathered o
     same None = refl
     same (Some n) = refl
 
--- m is what stands in T where o stands in S, if T has the words of the noted pages
-pub Keeps : List ℕ → List ℕ → Option Noted → Option Noted → Type 0
-Keeps S T None m = m ≡ None
-Keeps S T (Some n) m = SamePages S T n.pages → m ≡ Some n
+-- m is what stands in T where o stands in S, if T has the words of the gathered pages
+pub KeepsGathered : List ℕ → List ℕ → Option Gathered → Option Gathered → Type 0
+KeepsGathered S T None m = m ≡ None
+KeepsGathered S T (Some n) m = SamePages S T n.pages → m ≡ Some n
 
-abbrev pub KeepsMap : List ℕ → List ℕ → List Noted → List Noted → Type 0
-KeepsMap S T M N = (u : ℕ) → Keeps S T (slice_get M u) (slice_get N u)
+abbrev pub KeepsMap : List ℕ → List ℕ → List Gathered → List Gathered → Type 0
+KeepsMap S T M N = (u : ℕ) → KeepsGathered S T (slice_get M u) (slice_get N u)
 
 module _ (S T : List ℕ) where
   -- a slot
-  kept_note : (o m : Option Noted) → Keeps S T o m → SamePages S T (pages_noted o) → m ≡ o
-  unfolding Keeps
-  kept_note None m keeps same = keeps
-  kept_note (Some n) m keeps same = keeps same
+  kept_gathered : (o m : Option Gathered) → KeepsGathered S T o m → SamePages S T (pages_gathered o) → m ≡ o
+  unfolding KeepsGathered
+  kept_gathered None m keeps same = keeps
+  kept_gathered (Some n) m keeps same = keeps same
 
   -- a word of its page
   same_look : (gs : List ℕ) (j i k : ℕ) (o : Option Way) → k < 1024 → SamePages S T (pages_through gs o) → look S j i k o ≡ look T j i k o
@@ -63,18 +63,18 @@ module _ (S T : List ℕ) where
   same_before gs (Some (Open g)) same = first_all (SamePage S T) gs (g ∷ []) same
   same_before gs (Some (Shut l c p w)) same = same
 
-  module _ (M N : List Noted) (keeps : KeepsMap S T M N) where
+  module _ (M N : List Gathered) (keeps : KeepsMap S T M N) where
     kept_at : (u : ℕ) → SamePages S T (pages_read M u) → slice_get N u ≡ slice_get M u
-    kept_at u same = kept_note (slice_get M u) (slice_get N u) (keeps u) same
+    kept_at u same = kept_gathered (slice_get M u) (slice_get N u) (keeps u) same
 
     kept_page : (u : ℕ) → SamePages S T (word_pages M u) → slice_get N u ≡ slice_get M u
     kept_page u same = kept_at u (same_before (pages_read M u) (reading (slots_of M) u) same)
 
     kept_reading : (u : ℕ) → SamePages S T (word_pages M u) → reading (slots_of N) u ≡ reading (slots_of M) u
-    kept_reading u same = reads_noted N u ∙ ap way_noted (kept_page u same) ∙ sym (reads_noted M u)
+    kept_reading u same = reads_gathered N u ∙ ap way_gathered (kept_page u same) ∙ sym (reads_gathered M u)
 
     kept_pages : (u : ℕ) → SamePages S T (word_pages M u) → word_pages N u ≡ word_pages M u
-    kept_pages u same = ap₂ pages_through (ap pages_noted (kept_page u same)) (kept_reading u same)
+    kept_pages u same = ap₂ pages_through (ap pages_gathered (kept_page u same)) (kept_reading u same)
 
     kept_look : (j i k u : ℕ) → k < 1024 → SamePages S T (word_pages M u) → look T j i k (reading (slots_of N) u) ≡ look S j i k (reading (slots_of M) u)
     kept_look j i k u h same =
@@ -107,21 +107,21 @@ module _ (S T : List ℕ) where
 
     -- and the page that it names
     kept_target_pages : (l : Looked) → SamePages S T (target_pages M l) → target_pages N l ≡ target_pages M l
-    kept_target_pages (Named e) same = ap pages_noted (kept_at (field_of e 12 20) same)
+    kept_target_pages (Named e) same = ap pages_gathered (kept_at (field_of e 12 20) same)
     kept_target_pages (Stopped way) same = refl
 
     kept_slot : (j v i : ℕ) (l : Looked) → SamePages S T (target_pages M l) → slot_of (slots_of N) j v i l ≡ slot_of (slots_of M) j v i l
     kept_slot j v i (Named e) same =
         let u : ℕ = field_of e 12 20 in
-        ap (placed j v i e)
-        (slice_get-map (λ (n : Noted). n.slot) N u
-        ∙ ap (option_map (λ (n : Noted). n.slot)) (kept_at u same)
-        ∙ sym (slice_get-map (λ (n : Noted). n.slot) M u))
+        ap (slot_through j v i e)
+        (slice_get-map (λ (n : Gathered). n.slot) N u
+        ∙ ap (option_map (λ (n : Gathered). n.slot)) (kept_at u same)
+        ∙ sym (slice_get-map (λ (n : Gathered). n.slot) M u))
     kept_slot j v i (Stopped way) same = refl
 
-    pub kept_note_slot : (j t v i : ℕ) → i / 1024 < 1024 → SamePages S T (note_slot S M j t v i).pages → note_slot T N j t v i ≡ note_slot S M j t v i
+    pub kept_gathered_slot : (j t v i : ℕ) → i / 1024 < 1024 → SamePages S T (gathered_slot S M j t v i).pages → gathered_slot T N j t v i ≡ gathered_slot S M j t v i
     unfolding compose_slot
-    kept_note_slot j t v i h same =
+    kept_gathered_slot j t v i h same =
         ap₂ (λ (s : Slot) (gs : List ℕ). record { slot = s; pages = gs })
         (ap (slot_of (slots_of N) j v i) entry_same ∙ kept_slot j v i entry third)
         (ap₂ (λ (a b : List ℕ). a ++ b)
@@ -153,54 +153,54 @@ module _ (S T : List ℕ) where
         entry_same = ap (word_in T (reading (slots_of N)) j i) table_same ∙ kept_word j i (table_of S (reading (slots_of M)) j t v i) second
 
     -- a child's map
-    pub kept_notes : (j n t v : ℕ) → n ≤ 2 ^ 20 → KeepsMap S T (notes S M j n t v) (notes T N j n t v)
-    unfolding Keeps
-    kept_notes j n t v bound u = elim (cases_lt u n) [ inl h ↦ inside h | inr h ↦ outside h ]
+    pub kept_gathered_map : (j n t v : ℕ) → n ≤ 2 ^ 20 → KeepsMap S T (gathered_map S M j n t v) (gathered_map T N j n t v)
+    unfolding KeepsGathered
+    kept_gathered_map j n t v bound u = elim (cases_lt u n) [ inl h ↦ inside h | inr h ↦ outside h ]
       where
-        inside : u < n → Keeps S T (slice_get (notes S M j n t v) u) (slice_get (notes T N j n t v) u)
+        inside : u < n → KeepsGathered S T (slice_get (gathered_map S M j n t v) u) (slice_get (gathered_map T N j n t v) u)
         inside h =
             let low : u / 1024 < 1024 = omega arith in
-            subst (λ (o : Option Noted). Keeps S T o (slice_get (notes T N j n t v) u)) (sym (slice_get-notes S M j n t v u h))
-            (λ same. slice_get-notes T N j n t v u h ∙ ap Some (kept_note_slot j t v u low same))
+            subst (λ (o : Option Gathered). KeepsGathered S T o (slice_get (gathered_map T N j n t v) u)) (sym (slice_get-gathered_map S M j n t v u h))
+            (λ same. slice_get-gathered_map T N j n t v u h ∙ ap Some (kept_gathered_slot j t v u low same))
 
-        outside : n ≤ u → Keeps S T (slice_get (notes S M j n t v) u) (slice_get (notes T N j n t v) u)
+        outside : n ≤ u → KeepsGathered S T (slice_get (gathered_map S M j n t v) u) (slice_get (gathered_map T N j n t v) u)
         outside h =
-            subst (λ (o : Option Noted). Keeps S T o (slice_get (notes T N j n t v) u))
-            (sym (slice_get_past (notes S M j n t v) u (omega (arith, length-notes S M j n t v))))
-            (slice_get_past (notes T N j n t v) u (omega (arith, length-notes T N j n t v)))
+            subst (λ (o : Option Gathered). KeepsGathered S T o (slice_get (gathered_map T N j n t v) u))
+            (sym (slice_get_past (gathered_map S M j n t v) u (omega (arith, length-gathered_map S M j n t v))))
+            (slice_get_past (gathered_map T N j n t v) u (omega (arith, length-gathered_map T N j n t v)))
 
   -- the map of the bare machine
-  kept_self : (M : List Noted) → KeepsMap S T M M
-  unfolding Keeps
+  kept_self : (M : List Gathered) → KeepsMap S T M M
+  unfolding KeepsGathered
   kept_self M u = go (slice_get M u)
     where
-      go : (o : Option Noted) → Keeps S T o o
+      go : (o : Option Gathered) → KeepsGathered S T o o
       go None = refl
       go (Some n) = λ same. refl
 
-  pub kept_bare : length S ≡ length T → KeepsMap S T (bare_notes (page_count S)) (bare_notes (page_count T))
+  pub kept_bare : length S ≡ length T → KeepsMap S T (bare_gathered_map (page_count S)) (bare_gathered_map (page_count T))
   kept_bare e =
-      subst (λ (n : ℕ). KeepsMap S T (bare_notes (page_count S)) (bare_notes (n / 1024))) e (kept_self (bare_notes (page_count S)))
+      subst (λ (n : ℕ). KeepsMap S T (bare_gathered_map (page_count S)) (bare_gathered_map (n / 1024))) e (kept_self (bare_gathered_map (page_count S)))
 
   -- and the map along a row of machines
-  pub kept_from : (M N : List Noted) (j : ℕ) (items : List Item) → KeepsMap S T M N → AllByRecursion (λ (x : Item). x.pages ≤ 2 ^ 20) items → KeepsMap S T (notes_from S M j items) (notes_from T N j items)
-  unfolding notes_from
+  pub kept_from : (M N : List Gathered) (j : ℕ) (items : List Item) → KeepsMap S T M N → AllByRecursion (λ (x : Item). x.pages ≤ 2 ^ 20) items → KeepsMap S T (gathered_from S M j items) (gathered_from T N j items)
+  unfolding gathered_from
   kept_from M N j [] keeps sizes = keeps
   kept_from M N j (x ∷ xs) keeps sizes =
-      kept_from (notes S M j x.pages x.table x.version) (notes T N j x.pages x.table x.version) (j + 1) xs
-      (kept_notes M N keeps j x.pages x.table x.version sizes.0) sizes.1
+      kept_from (gathered_map S M j x.pages x.table x.version) (gathered_map T N j x.pages x.table x.version) (j + 1) xs
+      (kept_gathered_map M N keeps j x.pages x.table x.version sizes.0) sizes.1
 
-pub keeps_found : (S T : List ℕ) (M N : List Noted) (u : ℕ) (n : Noted) → KeepsMap S T M N → slice_get M u ≡ Some n → SamePages S T n.pages → slice_get N u ≡ Some n
-unfolding Keeps
-keeps_found S T M N u n keeps is = subst (λ (o : Option Noted). Keeps S T o (slice_get N u)) is (keeps u)
+pub keeps_found : (S T : List ℕ) (M N : List Gathered) (u : ℕ) (n : Gathered) → KeepsMap S T M N → slice_get M u ≡ Some n → SamePages S T n.pages → slice_get N u ≡ Some n
+unfolding KeepsGathered
+keeps_found S T M N u n keeps is = subst (λ (o : Option Gathered). KeepsGathered S T o (slice_get N u)) is (keeps u)
 
-pub noted_slot : (S T : List ℕ) (items : List Item) (page : ℕ) (n : Noted)
+pub slot_gathered : (S T : List ℕ) (items : List Item) (page : ℕ) (n : Gathered)
     → length S ≡ length T
     → AllByRecursion (λ (x : Item). x.pages ≤ 2 ^ 20) items
-    → slice_get (notes_along S items) page ≡ Some n
+    → slice_get (gathered_along S items) page ≡ Some n
     → SamePages S T n.pages
-    → slice_get (notes_along T items) page ≡ Some n
-unfolding notes_along
-noted_slot S T items page n long sizes is same =
-    keeps_found S T (notes_along S items) (notes_along T items) page n
-    (kept_from S T (bare_notes (page_count S)) (bare_notes (page_count T)) 0 items (kept_bare S T long) sizes) is same
+    → slice_get (gathered_along T items) page ≡ Some n
+unfolding gathered_along
+slot_gathered S T items page n long sizes is same =
+    keeps_found S T (gathered_along S items) (gathered_along T items) page n
+    (kept_from S T (bare_gathered_map (page_count S)) (bare_gathered_map (page_count T)) 0 items (kept_bare S T long) sizes) is same

@@ -9,7 +9,7 @@ use Rattle.hv_word.specs.Storage.{word_at}
 use Rattle.hv_store.specs.declared.access.Slot.{Slot}
 use Rattle.hv_store.specs.declared.access.Way.{Way}
 use Rattle.hv_store.specs.declared.access.Way.TheVariants.{Open, Shut}
-use Rattle.hv_map.specs.Compose.{Looked, Named, Stopped, present, look, page_named, table_of, word_in, entry_of, every, granted, placed, slot_of, reading, compose_slot}
+use Rattle.hv_map.specs.Compose.{Looked, Named, Stopped, present, look, page_named, table_of, word_in, entry_of, every, granted, slot_through, slot_of, reading, compose_slot}
 
 -- one word of a directory or a table, in the parent's page u
 module _ (S : List ℕ) (F : List Slot) (j i k u : ℕ) where
@@ -67,12 +67,12 @@ module _ (S : List ℕ) (F : List Slot) (j t v i : ℕ) where
   unfolding compose_slot
   slot_beyond e q is at h =
       ap (slot_of F j v i) is
-      ∙ ap (λ (x : ℕ). placed j v i e (slice_get F x)) (sym at)
-      ∙ ap (placed j v i e) (slice_get_past F q h)
+      ∙ ap (λ (x : ℕ). slot_through j v i e (slice_get F x)) (sym at)
+      ∙ ap (slot_through j v i e) (slice_get_past F q h)
 
   pub slot_granted : (e q : ℕ) (s : Slot) → entry_of S (reading F) j t v i ≡ Named e → q ≡ field_of e 12 20 → slice_get F q ≡ Some s → compose_slot S F j t v i ≡ granted j v i e s
   unfolding compose_slot
   slot_granted e q s is at f =
       ap (slot_of F j v i) is
-      ∙ ap (λ (x : ℕ). placed j v i e (slice_get F x)) (sym at)
-      ∙ ap (placed j v i e) f
+      ∙ ap (λ (x : ℕ). slot_through j v i e (slice_get F x)) (sym at)
+      ∙ ap (slot_through j v i e) f

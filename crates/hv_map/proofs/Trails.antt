@@ -15,7 +15,7 @@ use Rattle.hv_store.specs.declared.access.Way.TheVariants.{Open, Shut}
 use Rattle.hv_store.specs.Access.{way_for, identity, open_at}
 use Rattle.hv_store.proofs.Identity.{length-identity, slice_get-identity}
 use Rattle.hv_map.specs.Item.{Item}
-use Rattle.hv_map.specs.Compose.{Looked, Named, Stopped, look, page_named, table_of, word_in, entry_of, no_write, no_fetch, every, granted, placed, slot_of, reading, compose_slot, compose}
+use Rattle.hv_map.specs.Compose.{Looked, Named, Stopped, look, page_named, table_of, word_in, entry_of, no_write, no_fetch, every, granted, slot_through, slot_of, reading, compose_slot, compose}
 use Rattle.hv_map.specs.Chain.{along, map_along, pin_of, map_of}
 use Rattle.hv_map.specs.Trail.{pages_of, refuses, refusal_cause, go_out, outer_reading, step_out, trail, trail_of}
 use Rattle.hv_map.proofs.Slots.{along-snoc, length-composed, composed_at}
@@ -72,11 +72,11 @@ module _ (F : List Slot) (m : ℕ) (outer : ℕ → Access → Way) (gives : Giv
   slot_gives j v i (Named e) a = elim (cases_lt (field_of e 12 20) m) [
     | inl h ↦
         let there = slot_there (field_of e 12 20) h in
-        ap (λ (o : Option Slot). way_for (placed j v i e o) a) there.1
+        ap (λ (o : Option Slot). way_for (slot_through j v i e o) a) there.1
         ∙ granted_gives j v i e (field_of e 12 20) there.0 there.1 a
         ∙ sym (ap (λ (b : Bool). cond b (cond (refuses v e a) (Shut j (refusal_cause a) i None) (outer (field_of e 12 20) a)) (Shut j 3 i None)) (lt-ltb (field_of e 12 20) m h))
     | inr h ↦
-        ap (λ (o : Option Slot). way_for (placed j v i e o) a) (none_there (field_of e 12 20) h)
+        ap (λ (o : Option Slot). way_for (slot_through j v i e o) a) (none_there (field_of e 12 20) h)
         ∙ every_way (Shut j 3 i None) a
         ∙ sym (ap (λ (b : Bool). cond b (cond (refuses v e a) (Shut j (refusal_cause a) i None) (outer (field_of e 12 20) a)) (Shut j 3 i None)) (le-ltb (field_of e 12 20) m h))
   ]

@@ -5,11 +5,11 @@ use Rattle.hv_word.specs.Storage.{word_at}
 use Rattle.hv_store.specs.declared.access.Slot.{Slot}
 use Rattle.hv_store.specs.declared.access.Way.{Way}
 use Rattle.hv_store.specs.declared.access.Way.TheVariants.{Open, Shut}
-use Rattle.hv_block.specs.Block.{Held, block_of}
+use Rattle.hv_block.specs.Block.{Contents, block_of}
 use Rattle.hv_block.proofs.Blocks.{block_holds}
 use Rattle.hv_map.specs.Item.{Item}
 use Rattle.hv_map.specs.Compose.{compose}
-use Rattle.hv_map.specs.Chain.{along, child_held, child_through, child_at, child_of, machines}
+use Rattle.hv_map.specs.Chain.{along, child_with, child_through, child_at, child_of, machines}
 use Rattle.hv_map.specs.Words.{EachItem, EachChain, IsChild, Chained, syllables}
 use Rattle.hv_map.proofs.Agree.{composed_agrees}
 use Rattle.hv_map.proofs.Assoc.{begins_with}
@@ -62,27 +62,27 @@ pub record Follows (S : List ℕ) (F : List Slot) (s : ℕ) (x : Item) : Type 0 
   pub child : IsChild S F x
 
 module _ (S : List ℕ) (F : List Slot) (s : ℕ) (x : Item) where
-  follows_held : (g : ℕ) (slot : Slot) → slice_get F s ≡ Some slot → slot.write ≡ Open g → child_held s g (block_of S g) ≡ Some x → Follows S F s x
-  follows_held g slot there writes e = go (block_of S g) refl e
+  follows_contents : (g : ℕ) (slot : Slot) → slice_get F s ≡ Some slot → slot.write ≡ Open g → child_with s g (block_of S g) ≡ Some x → Follows S F s x
+  follows_contents g slot there writes e = go (block_of S g) refl e
     where
-      go : (o : Option Held) → block_of S g ≡ o → child_held s g o ≡ Some x → Follows S F s x
+      go : (o : Option Contents) → block_of S g ≡ o → child_with s g o ≡ Some x → Follows S F s x
       go None is f = absurd (let h : None ≡ Some x = f in cc)
-      go (Some held) is f =
-          let says = (block_holds S g held is).1 in
-          subst (Follows S F s) (same_Some record { syllable = s; block = g; pages = held.pages; table = held.table; version = held.version } x f) record {
+      go (Some contents) is f =
+          let says = (block_holds S g contents is).1 in
+          subst (Follows S F s) (same_Some record { syllable = s; block = g; pages = contents.pages; table = contents.table; version = contents.version } x f) record {
             syllable = refl;
             child = record {
               slot = slot;
               there = there;
               writes = writes;
-              pages = ap (λ (h : Held). h.pages) says;
-              table = ap (λ (h : Held). h.table) says;
-              version = ap (λ (h : Held). h.version) says;
+              pages = ap (λ (h : Contents). h.pages) says;
+              table = ap (λ (h : Contents). h.table) says;
+              version = ap (λ (h : Contents). h.version) says;
             };
           }
 
   follows_through : (way : Way) (slot : Slot) → slice_get F s ≡ Some slot → slot.write ≡ way → child_through S s way ≡ Some x → Follows S F s x
-  follows_through (Open g) slot there writes e = follows_held g slot there writes e
+  follows_through (Open g) slot there writes e = follows_contents g slot there writes e
   follows_through (Shut l c p w) slot there writes e = absurd (let f : None ≡ Some x = e in cc)
 
   follows_at : (o : Option Slot) → slice_get F s ≡ o → child_at S s o ≡ Some x → Follows S F s x

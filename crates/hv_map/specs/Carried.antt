@@ -10,9 +10,9 @@ use Rattle.hv_store.specs.declared.access.Way.TheVariants.{Open, Shut}
 use Rattle.hv_store.specs.Access.{way_for}
 
 -- a way that is shut at a level below k
-abbrev pub IsBelow : ℕ → Way → Type 0
-IsBelow k (Open g) = ⊥
-IsBelow k (Shut l c p w) = l < k
+abbrev pub IsShutBelow : ℕ → Way → Type 0
+IsShutBelow k (Open g) = ⊥
+IsShutBelow k (Shut l c p w) = l < k
 
 -- the way h for the access a is the other way carried through F: an open page becomes F's way for that page and the
 -- same access, and a shut way has its level raised by k
@@ -22,7 +22,7 @@ IsCarried k F a h (Shut l c p w) = h ≡ Shut (l + k) c p w
 
 -- h is refused by an ancestor of the machine at level k, or is the way g carried through F
 abbrev pub WayLike : ℕ → List Slot → Access → Way → Way → Type 0
-WayLike k F a h g = IsBelow k h ⊎ IsCarried k F a h g
+WayLike k F a h g = IsShutBelow k h ⊎ IsCarried k F a h g
 
 abbrev pub SlotLike : ℕ → List Slot → Option Slot → Option Slot → Type 0
 SlotLike k F None None = Unit {0}

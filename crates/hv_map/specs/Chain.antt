@@ -9,7 +9,7 @@ use Rattle.hv_store.specs.declared.access.Slot.{Slot}
 use Rattle.hv_store.specs.declared.access.Way.{Way}
 use Rattle.hv_store.specs.declared.access.Way.TheVariants.{Open, Shut}
 use Rattle.hv_store.specs.Access.{identity}
-use Rattle.hv_block.specs.Block.{Held, block_of, regs_at}
+use Rattle.hv_block.specs.Block.{Contents, block_of, regs_at}
 use Rattle.hv_map.specs.Item.{Item}
 use Rattle.hv_map.specs.Compose.{compose}
 
@@ -23,13 +23,13 @@ unfoldable pub map_along : List ℕ → List Item → List Slot
 map_along S items = along S (identity (page_count S)) 0 items
 
 -- the child whose block is in bare page g, page s of its parent, if that block is well formed
-abbrev pub child_held : ℕ → ℕ → Option Held → Option Item
-child_held s g None = None
-child_held s g (Some held) =
-    Some record { syllable = s; block = g; pages = held.pages; table = held.table; version = held.version }
+abbrev pub child_with : ℕ → ℕ → Option Contents → Option Item
+child_with s g None = None
+child_with s g (Some contents) =
+    Some record { syllable = s; block = g; pages = contents.pages; table = contents.table; version = contents.version }
 
 abbrev pub child_through : List ℕ → ℕ → Way → Option Item
-child_through S s (Open g) = child_held s g (block_of S g)
+child_through S s (Open g) = child_with s g (block_of S g)
 child_through S s (Shut l c p w) = None
 
 abbrev pub child_at : List ℕ → ℕ → Option Slot → Option Item

@@ -68,13 +68,13 @@ granted j v i e s = record {
   fetch = (if no_fetch v e then Shut j 7 i None else s.fetch);
 }
 
-abbrev pub placed : ℕ → ℕ → ℕ → ℕ → Option Slot → Slot
-placed j v i e None = every (Shut j 3 i None)
-placed j v i e (Some s) = granted j v i e s
+abbrev pub slot_through : ℕ → ℕ → ℕ → ℕ → Option Slot → Slot
+slot_through j v i e None = every (Shut j 3 i None)
+slot_through j v i e (Some s) = granted j v i e s
 
 abbrev pub slot_of : List Slot → ℕ → ℕ → ℕ → Looked → Slot
 slot_of F j v i (Stopped way) = every way
-slot_of F j v i (Named e) = placed j v i e (slice_get F (field_of e 12 20))
+slot_of F j v i (Named e) = slot_through j v i e (slice_get F (field_of e 12 20))
 
 -- the way for reading a page of the machine with the map F, none where it has no such page
 abbrev pub reading : List Slot → ℕ → Option Way

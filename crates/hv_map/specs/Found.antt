@@ -6,16 +6,16 @@ use Rattle.hv_store.specs.declared.access.Way.{Way}
 use Rattle.hv_store.specs.declared.access.Way.TheVariants.{Open, Shut}
 use Rattle.hv_store.specs.Access.{refused}
 use Rattle.hv_block.specs.declared.Block.{Block}
-use Rattle.hv_block.specs.Block.{Held, block_of}
+use Rattle.hv_block.specs.Block.{Contents, block_of}
 use Rattle.hv_map.specs.Item.{Item}
 use Rattle.hv_map.specs.declared.found.Found.{Found}
 use Rattle.hv_map.specs.declared.found.Found.TheVariants.{Child, Malformed, Refused}
 
 -- in bare page g, where the block in it is given, if there is a well-formed one
-abbrev pub found_in : ℕ → Option Held → Found
+abbrev pub found_in : ℕ → Option Contents → Found
 found_in g None = Malformed g
-found_in g (Some held) =
-    Child g record { cpu = held.regs; pages = held.pages; table = held.table; version = held.version }
+found_in g (Some contents) =
+    Child g record { cpu = contents.regs; pages = contents.pages; table = contents.table; version = contents.version }
 
 abbrev pub found_through : List ℕ → Way → Found
 found_through S (Open g) = found_in g (block_of S g)

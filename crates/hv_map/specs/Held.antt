@@ -9,9 +9,10 @@ use Rattle.hv_store.specs.declared.access.Slot.{Slot}
 use Rattle.hv_store.specs.declared.access.Way.TheVariants.{Open}
 use Rattle.hv_block.specs.Block.{block_of, regs_at}
 use Rattle.hv_map.specs.Apart.{has}
-use Rattle.hv_map.specs.Chain.{child_held, map_along, map_of, pin_of, running_path}
+use Rattle.hv_map.specs.Chain.{child_with, map_along, map_of, pin_of, running_path}
 use Rattle.hv_map.specs.Item.{Item}
-use Rattle.hv_map.specs.Noted.{Listed, Noted, bare_notes, notes, notes_along, pin_pages, slots_of, with_pages}
+use Rattle.hv_map.specs.Gathered.{Gathered, Listed, bare_gathered_map, gathered_along, gathered_map, pin_pages}
+use Rattle.hv_map.specs.Gathered.{slots_of, with_pages}
 use Rattle.hv_map.specs.Words.{syllables}
 
 -- each of some pages is listed
@@ -27,7 +28,7 @@ SamePages S T gs = AllByRecursion (SamePage S T) gs
 
 -- the block of x is well formed, and says what x does; and so does each of the items' blocks
 abbrev pub SaysItem : List ℕ → Item → Type 0
-SaysItem S x = child_held x.syllable x.block (block_of S x.block) ≡ Some x
+SaysItem S x = child_with x.syllable x.block (block_of S x.block) ≡ Some x
 
 abbrev pub SaysItems : List ℕ → List Item → Type 0
 SaysItems S items = AllByRecursion (SaysItem S) items
@@ -37,17 +38,17 @@ abbrev pub SameNexts : List ℕ → List ℕ → List Item → Type 0
 SameNexts S T items = AllByRecursion (λ (x : Item). word_at S x.block 64 ≡ word_at T x.block 64) items
 
 -- x is the child on its page of a machine with the map N, and what is read to find its block is listed
-pub record IsPlaced (S : List ℕ) (N : List Noted) (p : Listed) (x : Item) : Type 0 where
-  pub note : Noted
-  pub found : slice_get N x.syllable ≡ Some note
-  pub opens : note.slot.write ≡ Open x.block
-  pub listed : Lists p note.pages
+pub record IsPlaced (S : List ℕ) (N : List Gathered) (p : Listed) (x : Item) : Type 0 where
+  pub gathered : Gathered
+  pub found : slice_get N x.syllable ≡ Some gathered
+  pub opens : gathered.slot.write ≡ Open x.block
+  pub listed : Lists p gathered.pages
   pub says : SaysItem S x
 
 -- the same of each of the items, where N is the map of the machine before the first, at level j
-abbrev pub Placed : List ℕ → List Noted → Listed → ℕ → List Item → Type 0
+abbrev pub Placed : List ℕ → List Gathered → Listed → ℕ → List Item → Type 0
 Placed S N p j [] = Unit {0}
-Placed S N p j (x ∷ xs) = IsPlaced S N p x × Placed S (notes S N j x.pages x.table x.version) p (j + 1) xs
+Placed S N p j (x ∷ xs) = IsPlaced S N p x × Placed S (gathered_map S N j x.pages x.table x.version) p (j + 1) xs
 
 -- the items are the machines that are found by following next from the registers r on, and the last has no next
 abbrev pub Nexts : List ℕ → Regs → List Item → Type 0
@@ -60,31 +61,32 @@ Nexts S r (x ∷ xs) = IsNext r x × Nexts S (regs_at S x.block) xs
 -- the items are the machines on the path that a hart with the registers r runs, and what they are found by is listed
 pub record IsPin (S : List ℕ) (r : Regs) (items : List Item) (p : Listed) : Type 0 where
   pub short : length items ≤ depth_limit
-  pub placed : Placed S (bare_notes (page_count S)) p 0 items
+  pub placed : Placed S (bare_gathered_map (page_count S)) p 0 items
   pub nexts : Nexts S r items
 
 -- the items are the machines on a path, the page of the last of them has the slot, and what that is found by is listed
 pub record IsHeld (S : List ℕ) (items : List Item) (p : Listed) (page : ℕ) (slot : Slot) : Type 0 where
-  pub placed : Placed S (bare_notes (page_count S)) p 0 items
-  pub note : Noted
-  pub found : slice_get (notes_along S items) page ≡ Some note
-  pub same : note.slot ≡ slot
-  pub listed : Lists p note.pages
+  pub placed : Placed S (bare_gathered_map (page_count S)) p 0 items
+  pub gathered : Gathered
+  pub found : slice_get (gathered_along S items) page ≡ Some gathered
+  pub same : gathered.slot ≡ slot
+  pub listed : Lists p gathered.pages
 
--- a map with notes is the map, where the notes are left out
-abbrev pub NotedMapLaw : Type 0
-NotedMapLaw = (S : List ℕ) (items : List Item) → slots_of (notes_along S items) ≡ map_along S items
+-- a map with gathered pages is the map, where these are left out
+abbrev pub GatheredMapLaw : Type 0
+GatheredMapLaw = (S : List ℕ) (items : List Item) → slots_of (gathered_along S items) ≡ map_along S items
 
--- A slot depends on nothing but the words of the pages that are noted beside it: two storages of one length that agree
--- on these have it alike, with the same notes. (A machine has at most 2 ^ 20 pages, as every well-formed block says.)
-abbrev pub NotedSlotLaw : Type 0
-NotedSlotLaw =
-    (S T : List ℕ) (items : List Item) (page : ℕ) (n : Noted)
+-- A slot depends on nothing but the words of the pages that are gathered beside it: two storages of one length that
+-- agree on these have it alike, with the same pages. (A machine has at most 2 ^ 20 pages, as every well-formed block
+-- says.)
+abbrev pub GatheredSlotLaw : Type 0
+GatheredSlotLaw =
+    (S T : List ℕ) (items : List Item) (page : ℕ) (n : Gathered)
     → length S ≡ length T
     → AllByRecursion (λ (x : Item). x.pages ≤ 2 ^ 20) items
-    → slice_get (notes_along S items) page ≡ Some n
+    → slice_get (gathered_along S items) page ≡ Some n
     → SamePages S T n.pages
-    → slice_get (notes_along T items) page ≡ Some n
+    → slice_get (gathered_along T items) page ≡ Some n
 
 -- a list that isn't full has all pages that were added
 abbrev pub ListedLaw : Type 0
@@ -100,7 +102,7 @@ PlacedLaw =
     (S path : List ℕ) (items : List Item) (p : Listed)
     → pin_of S path ≡ Some items
     → Lists p (pin_pages S items)
-    → Placed S (bare_notes (page_count S)) p 0 items
+    → Placed S (bare_gathered_map (page_count S)) p 0 items
 
 -- A held translation, of a page of the machine on a path, is right: the path has a map, and the page this slot in it.
 abbrev pub IsRight : List ℕ → List ℕ → ℕ → Slot → Type 0

@@ -46,8 +46,8 @@ abbrev pub IsWayWithin : ℕ → ℕ → Way → Type 0
 IsWayWithin P k (Open g) = g < P
 IsWayWithin P k (Shut l c p w) = (l < k) × (p < 2 ^ 20) × IfSome w (λ n. n < 1024)
 
-abbrev pub IsWithin : ℕ → ℕ → Slot → Type 0
-IsWithin P k s = IsWayWithin P k s.read × IsWayWithin P k s.write × IsWayWithin P k s.fetch
+abbrev pub IsSlotWithin : ℕ → ℕ → Slot → Type 0
+IsSlotWithin P k s = IsWayWithin P k s.read × IsWayWithin P k s.write × IsWayWithin P k s.fetch
 
 -- what a function that looks a word up answers
 abbrev pub looked : Result ℕ Way → Looked

@@ -8,7 +8,7 @@ pub mod Item
 pub mod Laws
 pub mod Levels
 pub mod Links
-pub mod Noted
+pub mod Gathered
 pub mod Seen
 pub mod Trail
 pub mod Words

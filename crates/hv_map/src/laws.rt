@@ -1,6 +1,6 @@
 //! What always holds of composed maps. Each function here is empty: it states one law, which is proved.
 
-ghost use Rattle.hv_map.specs.Held.{NotedMapLaw, NotedSlotLaw, ListedLaw, ListKeepsLaw, PlacedLaw, HeldIsRightLaw, PinIsRightLaw, HeldStaysLaw, PinStaysLaw};
+ghost use Rattle.hv_map.specs.Held.{GatheredMapLaw, GatheredSlotLaw, ListedLaw, ListKeepsLaw, PlacedLaw, HeldIsRightLaw, PinIsRightLaw, HeldStaysLaw, PinStaysLaw};
 ghost use Rattle.hv_map.specs.Laws.{SizeLaw, TableLaw, OpensLaw, SameLaw, LevelLaw, CarryLaw, TrailLaw, AssociativeLaw, AlongLaw, PinnedLaw, RunningLaw};
 
 /// A child's map has a slot for each of its pages, and no other.
@@ -66,14 +66,14 @@ pub fn running_path_has_a_map()
     ensures { RunningLaw }
 {}
 
-/// A map with notes is the map, where the notes are left out.
-pub fn notes_stand_beside_map()
-    ensures { NotedMapLaw }
+/// A map with gathered pages is the map, where these are left out.
+pub fn gathered_pages_stand_beside_map()
+    ensures { GatheredMapLaw }
 {}
 
-/// A slot depends on nothing but the words of the pages that are noted beside it.
-pub fn slot_depends_on_noted_pages()
-    ensures { NotedSlotLaw }
+/// A slot depends on nothing but the words of the pages that are gathered beside it.
+pub fn slot_depends_on_gathered_pages()
+    ensures { GatheredSlotLaw }
 {}
 
 /// A list that isn't full has all pages that were added.

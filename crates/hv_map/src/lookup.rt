@@ -4,7 +4,7 @@ ghost use Rattle.std.specs.Prelude.{◌≡◌, ◌≢◌, ◌+◌, ◌*◌, ◌/
 ghost use Rattle.hv_word.specs.Storage.{page_count};
 ghost use Rattle.hv_map.specs.Chain.{map_along};
 ghost use Rattle.hv_map.specs.Compose.{reading, present, look, every, granted};
-ghost use Rattle.hv_map.specs.Levels.{map_at, table_at, entry_at, child_slot_at, reads_at, reads_bound, looked, IsWayWithin, IsWithin};
+ghost use Rattle.hv_map.specs.Levels.{map_at, table_at, entry_at, child_slot_at, reads_at, reads_bound, looked, IsWayWithin, IsSlotWithin};
 ghost use Rattle.hv_store.specs.declared.access.Way.TheVariants.{Shut};
 
 use crate::chain::{Chain, Link};
@@ -20,7 +20,7 @@ use std::sync::ledger::{Blank, Ledger};
 pub fn resolve<L: Ledger>(store: &Store, chain: &Chain, page: u32, steps: &mut Steps<L>) -> Slot
     requires { page < length (map_along store.now chain.now) }
     ensures slot { slice_get (map_along store.now chain.now) page ≡ Some result }
-    ensures within { IsWithin (page_count store.now) (length chain.now) result }
+    ensures within { IsSlotWithin (page_count store.now) (length chain.now) result }
     ensures ticks { steps.new < steps.old + reads_bound chain.now }
 {
     resolve_at(store, chain, chain.len(), page, steps)
@@ -30,7 +30,7 @@ pub fn resolve<L: Ledger>(store: &Store, chain: &Chain, page: u32, steps: &mut S
 pub fn page_slot(store: &Store, chain: &Chain, page: u32) -> Slot
     requires { page < length (map_along store.now chain.now) }
     ensures slot { slice_get (map_along store.now chain.now) page ≡ Some result }
-    ensures within { IsWithin (page_count store.now) (length chain.now) result }
+    ensures within { IsSlotWithin (page_count store.now) (length chain.now) result }
 {
     page_slot_by::<Brand>(store, chain, page, Blank::new(1))
 }
@@ -41,7 +41,7 @@ fn page_slot_by<L: Ledger>(store: &Store, chain: &Chain, page: u32, blank: Blank
     requires parts { blank.parts ≡ L.parts }
     requires some { 0 < blank.parts }
     ensures slot { slice_get (map_along store.now chain.now) page ≡ Some result }
-    ensures within { IsWithin (page_count store.now) (length chain.now) result }
+    ensures within { IsSlotWithin (page_count store.now) (length chain.now) result }
 {
     let mut steps = Steps::<L>::new(blank);
     resolve(store, chain, page, &mut steps)
@@ -74,7 +74,7 @@ fn resolve_at<L: Ledger>(
     requires level { level ≤ length chain.now }
     requires page { page < length (map_at store.now chain.now level) }
     ensures slot { slice_get (map_at store.now chain.now level) page ≡ Some result }
-    ensures within { IsWithin (page_count store.now) (length chain.now) result }
+    ensures within { IsSlotWithin (page_count store.now) (length chain.now) result }
     ensures ticks { steps.new < steps.old + reads_at chain.now level }
 {
     if level == 0 {
@@ -95,7 +95,7 @@ fn slot_at<L: Ledger>(
 ) -> Option<Slot>
     requires level { level ≤ length chain.now }
     ensures slot { result ≡ slice_get (map_at store.now chain.now level) page }
-    ensures within { IfSome result (λ s. IsWithin (page_count store.now) (length chain.now) s) }
+    ensures within { IfSome result (λ s. IsSlotWithin (page_count store.now) (length chain.now) s) }
     ensures ticks { steps.new < steps.old + reads_at chain.now level }
 {
     if page >= u64::from(pages_at(store, chain, level)) {
@@ -118,7 +118,7 @@ fn slot_of_child<L: Ledger>(
     requires level { level < length chain.now }
     requires page { page < 2 ^ 20 }
     ensures slot { result ≡ child_slot_at store.now chain.now level child page }
-    ensures within { IsWithin (page_count store.now) (length chain.now) result }
+    ensures within { IsSlotWithin (page_count store.now) (length chain.now) result }
     ensures ticks { steps.new < steps.old
         + (if child.version == 2 then 3 * reads_at chain.now level else 2 * reads_at chain.now level) }
 {

@@ -2,7 +2,7 @@
 
 ghost use Rattle.std.specs.Prelude.{◌≡◌};
 ghost use Rattle.hv_map.specs.Apart.{has};
-ghost use Rattle.hv_map.specs.Noted.{no_pages, with_page};
+ghost use Rattle.hv_map.specs.Gathered.{no_pages, with_page};
 
 use std::marker::Model;
 
@@ -21,16 +21,16 @@ pub struct Pages {
 impl Model for Pages {
     ghost use Rattle.std.specs.Prelude.{◌≡◌, ◌≤◌, ◌==◌, true, length, take};
     ghost use Rattle.std.specs.List.{IsDistinct};
-    ghost use Rattle.hv_map.specs.Noted.{Listed, noted_limit};
+    ghost use Rattle.hv_map.specs.Gathered.{Listed, listed_limit};
 
     ghost Value = { Listed };
 
     ghost view = { λ p. record { pages = take p.len p.pages; full = p.full } };
 
-    ghost invariant = { λ p. (p.len ≤ noted_limit)
-        × (length p.pages ≡ noted_limit)
+    ghost invariant = { λ p. (p.len ≤ listed_limit)
+        × (length p.pages ≡ listed_limit)
         × IsDistinct (λ a b. a == b) (take p.len p.pages)
-        × (p.full ≡ true → p.len ≡ noted_limit) };
+        × (p.full ≡ true → p.len ≡ listed_limit) };
 }
 
 impl Pages {

@@ -2,7 +2,7 @@
 
 ghost use Rattle.std.specs.Prelude.{◌≡◌, ◌<◌, ◌^◌, ℕ, IfSome};
 ghost use Rattle.hv_store.specs.Access.{way_for, refused};
-ghost use Rattle.hv_map.specs.Levels.{IsWayWithin, IsWithin};
+ghost use Rattle.hv_map.specs.Levels.{IsWayWithin, IsSlotWithin};
 
 use hv_limits::LEVELS;
 use hv_store::{Access, Refusal, Slot, Way};
@@ -20,7 +20,7 @@ pub struct Trail {
 /// The way of a slot that serves an access.
 pub(crate) fn way_for(slot: Slot, access: Access) -> Way
     ensures way { result ≡ way_for slot access }
-    ensures within { (P k : ℕ) → IsWithin P k slot → IsWayWithin P k result }
+    ensures within { (P k : ℕ) → IsSlotWithin P k slot → IsWayWithin P k result }
 {
     match access {
         Access::Read => slot.read,

@@ -17,8 +17,8 @@ below : (count hart : ℕ) (cpus rs : List Regs) → take count cpus ≡ rs → 
 below count hart cpus rs is fits lt = omega (arith, lt, ap length is, length-take-le count cpus fits)
 
 -- what stands there is the hart's
-pub held_at : (count hart : ℕ) (cpus rs : List Regs) (d : Regs) → take count cpus ≡ rs → count ≤ length cpus → hart < length rs → slice_get rs hart ≡ Some (get_or cpus hart d)
-held_at count hart cpus rs d is fits lt =
+pub registers_at : (count hart : ℕ) (cpus rs : List Regs) (d : Regs) → take count cpus ≡ rs → count ≤ length cpus → hart < length rs → slice_get rs hart ≡ Some (get_or cpus hart d)
+registers_at count hart cpus rs d is fits lt =
     slice_get-get_or rs hart d lt
     ∙ ap (λ (xs : List Regs). Some (get_or xs hart d)) (sym is)
     ∙ ap Some (get_or-take count cpus hart d (below count hart cpus rs is fits lt))

@@ -9,7 +9,7 @@ use Rattle.hv_store.specs.declared.access.Way.{Way}
 use Rattle.hv_store.specs.declared.access.Way.TheVariants.{Open, Shut}
 use Rattle.hv_store.specs.Access.{way_for, identity}
 use Rattle.hv_map.specs.Item.{Item}
-use Rattle.hv_map.specs.Compose.{Looked, Named, Stopped, look, page_named, table_of, word_in, entry_of, no_write, no_fetch, every, granted, placed, slot_of, reading, compose_slot, compose}
+use Rattle.hv_map.specs.Compose.{Looked, Named, Stopped, look, page_named, table_of, word_in, entry_of, no_write, no_fetch, every, granted, slot_through, slot_of, reading, compose_slot, compose}
 use Rattle.hv_map.specs.Chain.{along}
 use Rattle.hv_map.proofs.Slots.{composed_at}
 use Rattle.hv_map.proofs.Views.{identity_below}
@@ -84,7 +84,7 @@ module _ (S : List ℕ) (F : List Slot) (j : ℕ) (tells : TellsAll F) where
   granted_tells v i e q s is Write = chosen_tells (no_write e) (Shut j 2 i None) s.write refl (tells q s Write is)
   granted_tells v i e q s is Fetch = chosen_tells (no_fetch v e) (Shut j 7 i None) s.fetch refl (tells q s Fetch is)
 
-  placed_tells : (v i e q : ℕ) (o : Option Slot) → slice_get F q ≡ o → (a : Access) → Tells (way_for (placed j v i e o) a)
+  placed_tells : (v i e q : ℕ) (o : Option Slot) → slice_get F q ≡ o → (a : Access) → Tells (way_for (slot_through j v i e o) a)
   unfolding Tells
   placed_tells v i e q None is a = every_tells (Shut j 3 i None) refl a
   placed_tells v i e q (Some s) is a = granted_tells v i e q s is a

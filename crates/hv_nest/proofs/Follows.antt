@@ -10,7 +10,7 @@ use Rattle.hv_store.specs.declared.access.Way.TheVariants.{Open, Shut}
 use Rattle.hv_store.specs.Access.{identity}
 use Rattle.hv_store.proofs.Identity.{length-identity}
 use Rattle.hv_block.specs.declared.Block.{Block}
-use Rattle.hv_block.specs.Block.{regs_at, is_block, held_at}
+use Rattle.hv_block.specs.Block.{regs_at, is_block, contents_at}
 use Rattle.hv_map.specs.Item.{Item}
 use Rattle.hv_map.specs.Compose.{compose}
 use Rattle.hv_map.specs.Chain.{along, map_along, child_of, child_next, run_on, running, running_path}
@@ -49,7 +49,7 @@ child_regs S F s g b e = at (slice_get F s) e
     no : true ≡ false → ⊥
     no p = cc
 
-    in_page : (h : ℕ) (t : Bool) → Some (Child g b) ≡ Some (found_in h (cond t (Some (held_at S h)) None)) → regs_at S g ≡ b.cpu
+    in_page : (h : ℕ) (t : Bool) → Some (Child g b) ≡ Some (found_in h (cond t (Some (contents_at S h)) None)) → regs_at S g ≡ b.cpu
     in_page h true p = ap (regs_at S) (ap block_in p) ∙ sym (ap (regs_in b.cpu) p)
     in_page h false p = absurd (no (ap is_child p))
 

@@ -17,11 +17,11 @@ use Rattle.hv_store.specs.Access.{identity}
 use Rattle.hv_exec.specs.Act.{Acted, Done, Refused, act_of}
 use Rattle.hv_exec.specs.Changes.{among, opens_for_writing, ChangesFew}
 use Rattle.hv_exec.proofs.Few.{few_act, may_write}
-use Rattle.hv_block.specs.Block.{Held, regs_at, block_of, put_regs, with_fault, access_word}
+use Rattle.hv_block.specs.Block.{Contents, regs_at, block_of, put_regs, with_fault, access_word}
 use Rattle.hv_block.proofs.Blocks.{block_holds}
 use Rattle.hv_map.specs.Item.{Item}
 use Rattle.hv_map.specs.Compose.{compose}
-use Rattle.hv_map.specs.Chain.{along, map_along, child_held, child_through, child_at, child_of, option_cons, machines, pin_of, child_next, run_on, running, running_path}
+use Rattle.hv_map.specs.Chain.{along, map_along, child_with, child_through, child_at, child_of, option_cons, machines, pin_of, child_next, run_on, running, running_path}
 use Rattle.hv_limits.specs.Limits.{depth_limit}
 use Rattle.hv_nest.specs.declared.outcome.StepKind.{StepKind}
 use Rattle.hv_nest.specs.declared.outcome.StepKind.TheVariants.{Worked as WorkedKind, Recall, Fault}
@@ -194,14 +194,14 @@ no_child S F j r deeper e = at (slice_get F r.next) refl e
     some-none : (x : Item) → Some x ≡ None → ⊥
     some-none x p = cc
 
-    held : (g : ℕ) → opens_for_writing F g ≡ true → (o : Option Held) → child_held r.next g o ≡ None → FramedStep S F [] (child_step deeper S F j r g o)
-    held g open_to None e =
+    contents : (g : ℕ) → opens_for_writing F g ≡ true → (o : Option Contents) → child_with r.next g o ≡ None → FramedStep S F [] (child_step deeper S F j r g o)
+    contents g open_to None e =
         framed_told S F [] j r g (malformed j r.next)
         (λ a k. or_left (opens_for_writing F (a / 1024)) (is_kept_of [] a) (ap (opens_for_writing F) (kept_page g a k) ∙ open_to))
-    held g open_to (Some h) e = absurd (some-none record { syllable = r.next; block = g; pages = h.pages; table = h.table; version = h.version } e)
+    contents g open_to (Some h) e = absurd (some-none record { syllable = r.next; block = g; pages = h.pages; table = h.table; version = h.version } e)
 
     through : (slot : Slot) → slice_get F r.next ≡ Some slot → (way : Way) → slot.write ≡ way → child_through S r.next way ≡ None → FramedStep S F [] (step_through deeper S F j r way)
-    through slot is (Open g) w e = held g (may_write F r.next slot g is w) (block_of S g) e
+    through slot is (Open g) w e = contents g (may_write F r.next slot g is w) (block_of S g) e
     through slot is (Shut l c p k) w e = tt
 
     at : (o : Option Slot) → slice_get F r.next ≡ o → child_at S r.next o ≡ None → FramedStep S F [] (step_at deeper S F j r o)
@@ -215,14 +215,14 @@ child_goes S F j r deeper x e = at (slice_get F r.next) e
     none-some : None ≡ Some x → ⊥
     none-some p = cc
 
-    held : (g : ℕ) (o : Option Held) → block_of S g ≡ o → child_held r.next g o ≡ Some x → child_step deeper S F j r g o ≡ put_back S j r x.block (deeper S (compose S F j x.pages x.table x.version) (j + 1) 0 (regs_at S x.block))
-    held g None is e = absurd (none-some e)
-    held g (Some h) is e =
-        ap (λ (q : Regs). put_back S j r g (deeper S (compose S F j h.pages h.table h.version) (j + 1) 0 q)) (sym (ap (λ (k : Held). k.regs) (block_holds S g h is).1))
+    contents : (g : ℕ) (o : Option Contents) → block_of S g ≡ o → child_with r.next g o ≡ Some x → child_step deeper S F j r g o ≡ put_back S j r x.block (deeper S (compose S F j x.pages x.table x.version) (j + 1) 0 (regs_at S x.block))
+    contents g None is e = absurd (none-some e)
+    contents g (Some h) is e =
+        ap (λ (q : Regs). put_back S j r g (deeper S (compose S F j h.pages h.table h.version) (j + 1) 0 q)) (sym (ap (λ (k : Contents). k.regs) (block_holds S g h is).1))
         ∙ ap (λ (y : Item). put_back S j r y.block (deeper S (compose S F j y.pages y.table y.version) (j + 1) 0 (regs_at S y.block))) (same_Some record { syllable = r.next; block = g; pages = h.pages; table = h.table; version = h.version } x e)
 
     through : (way : Way) → child_through S r.next way ≡ Some x → step_through deeper S F j r way ≡ put_back S j r x.block (deeper S (compose S F j x.pages x.table x.version) (j + 1) 0 (regs_at S x.block))
-    through (Open g) e = held g (block_of S g) refl e
+    through (Open g) e = contents g (block_of S g) refl e
     through (Shut l c p k) e = absurd (none-some e)
 
     at : (o : Option Slot) → child_at S r.next o ≡ Some x → step_at deeper S F j r o ≡ put_back S j r x.block (deeper S (compose S F j x.pages x.table x.version) (j + 1) 0 (regs_at S x.block))
@@ -235,12 +235,12 @@ child_named S F s x e = at (slice_get F s) e
     none-some : None ≡ Some x → ⊥
     none-some p = cc
 
-    held : (g : ℕ) (o : Option Held) → child_held s g o ≡ Some x → s ≡ x.syllable
-    held g None e = absurd (none-some e)
-    held g (Some h) e = ap (λ (y : Item). y.syllable) (same_Some record { syllable = s; block = g; pages = h.pages; table = h.table; version = h.version } x e)
+    contents : (g : ℕ) (o : Option Contents) → child_with s g o ≡ Some x → s ≡ x.syllable
+    contents g None e = absurd (none-some e)
+    contents g (Some h) e = ap (λ (y : Item). y.syllable) (same_Some record { syllable = s; block = g; pages = h.pages; table = h.table; version = h.version } x e)
 
     through : (way : Way) → child_through S s way ≡ Some x → s ≡ x.syllable
-    through (Open g) e = held g (block_of S g) e
+    through (Open g) e = contents g (block_of S g) e
     through (Shut l c p k) e = absurd (none-some e)
 
     at : (o : Option Slot) → child_at S s o ≡ Some x → s ≡ x.syllable

@@ -13,11 +13,11 @@ use Rattle.hv_store.specs.declared.access.Way.{Way}
 use Rattle.hv_store.specs.declared.access.Way.TheVariants.{Open, Shut}
 use Rattle.hv_store.specs.Access.{way_for, refused}
 use Rattle.hv_exec.specs.Act.{Acted, Done, Refused, act_of}
-use Rattle.hv_block.specs.Block.{Held, block_of, regs_at, with_fault, access_word}
+use Rattle.hv_block.specs.Block.{Contents, block_of, regs_at, with_fault, access_word}
 use Rattle.hv_block.proofs.Blocks.{block_holds, block_sized}
 use Rattle.hv_map.specs.Item.{Item}
 use Rattle.hv_map.specs.Compose.{compose}
-use Rattle.hv_map.specs.Chain.{along, child_held, child_through, child_at, child_of, machines, child_next, run_on, running}
+use Rattle.hv_map.specs.Chain.{along, child_with, child_through, child_at, child_of, machines, child_next, run_on, running}
 use Rattle.hv_map.specs.Carried.{ShutBelow}
 use Rattle.hv_map.proofs.Assoc.{begins_from}
 use Rattle.hv_map.proofs.Slots.{length-composed}
@@ -45,9 +45,9 @@ PassedBelow j (Faulted l c address a S r) = Unit {0}
 PassedBelow j (Barred e) = e.level < j
 
 -- the block of the child on page s can't be run
-abbrev pub blocked_by : ℕ → ℕ → Option Held → Option Refusal
+abbrev pub blocked_by : ℕ → ℕ → Option Contents → Option Refusal
 blocked_by k s None = Some (malformed k s)
-blocked_by k s (Some held) = None
+blocked_by k s (Some contents) = None
 
 abbrev pub blocked_through : List ℕ → ℕ → ℕ → Way → Option Refusal
 blocked_through S k s (Open g) = blocked_by k s (block_of S g)
@@ -163,24 +163,24 @@ next_some s = ne_eqb (suc s) 0 (λ e. absurd (omega arith))
 
 -- the machine runs a child that can't be run
 module _ (deeper : Machine) (S : List ℕ) (F : List Slot) (j hart : ℕ) (r : Regs) where
-  held_stops : (g s : ℕ) (o : Option Held) → child_held s g o ≡ None → reason_of (child_step deeper S F j r g o) ≡ blocked_by j r.next o
-  held_stops g s None e = told_reason S j r g (malformed j r.next)
-  held_stops g s (Some held) e = absurd (let f : Some record { syllable = s; block = g; pages = held.pages; table = held.table; version = held.version } ≡ None = e in cc)
+  contents_stop : (g s : ℕ) (o : Option Contents) → child_with s g o ≡ None → reason_of (child_step deeper S F j r g o) ≡ blocked_by j r.next o
+  contents_stop g s None e = told_reason S j r g (malformed j r.next)
+  contents_stop g s (Some contents) e = absurd (let f : Some record { syllable = s; block = g; pages = contents.pages; table = contents.table; version = contents.version } ≡ None = e in cc)
 
   through_stops : (s : ℕ) (way : Way) → child_through S s way ≡ None → reason_of (step_through deeper S F j r way) ≡ blocked_through S j r.next way
-  through_stops s (Open g) e = held_stops g s (block_of S g) e
+  through_stops s (Open g) e = contents_stop g s (block_of S g) e
   through_stops s (Shut l c p w) e = refl
 
   slot_stops : (s : ℕ) (o : Option Slot) → child_at S s o ≡ None → reason_of (step_at deeper S F j r o) ≡ blocked_at S j r.next o
   slot_stops s None e = refl
   slot_stops s (Some slot) e = through_stops s slot.write e
 
-  held_below : (g s : ℕ) (o : Option Held) → child_held s g o ≡ None → PassedBelow j (child_step deeper S F j r g o)
-  held_below g s None e = told_below S j r g (malformed j r.next) (omega arith)
-  held_below g s (Some held) e = absurd (let f : Some record { syllable = s; block = g; pages = held.pages; table = held.table; version = held.version } ≡ None = e in cc)
+  contents_below : (g s : ℕ) (o : Option Contents) → child_with s g o ≡ None → PassedBelow j (child_step deeper S F j r g o)
+  contents_below g s None e = told_below S j r g (malformed j r.next) (omega arith)
+  contents_below g s (Some contents) e = absurd (let f : Some record { syllable = s; block = g; pages = contents.pages; table = contents.table; version = contents.version } ≡ None = e in cc)
 
   through_stops_below : (s : ℕ) (way : Way) → ((l c p : ℕ) (w : Option ℕ) → way ≡ Shut l c p w → l < j) → child_through S s way ≡ None → PassedBelow j (step_through deeper S F j r way)
-  through_stops_below s (Open g) below e = held_below g s (block_of S g) e
+  through_stops_below s (Open g) below e = contents_below g s (block_of S g) e
   through_stops_below s (Shut l c p None) below e = below l c p None refl
   through_stops_below s (Shut l c p (Some w)) below e = below l c p (Some w) refl
 
@@ -196,18 +196,18 @@ module _ (deeper : Machine) (S : List ℕ) (F : List Slot) (j hart : ℕ) (r : R
       through_stops_below s slot.write (λ l c p w shut. below i slot Write l c p w there shut) e
 
   -- it runs a child that can be run
-  held_goes : (g s : ℕ) (x : Item) (o : Option Held) → block_of S g ≡ o → child_held s g o ≡ Some x
+  contents_go : (g s : ℕ) (x : Item) (o : Option Contents) → block_of S g ≡ o → child_with s g o ≡ Some x
       → child_step deeper S F j r g o ≡ put_back S j r x.block (deeper S (compose S F j x.pages x.table x.version) (j + 1) 0 (regs_at S x.block))
-  held_goes g s x None is e = absurd (let f : None ≡ Some x = e in cc)
-  held_goes g s x (Some held) is e =
-      let regs : held.regs ≡ regs_at S g = sym (ap (λ (h : Held). h.regs) (block_holds S g held is).1) in
-      let item : record { syllable = s; block = g; pages = held.pages; table = held.table; version = held.version } ≡ x = same_Some record { syllable = s; block = g; pages = held.pages; table = held.table; version = held.version } x e in
-      ap (λ (c : Regs). put_back S j r g (deeper S (compose S F j held.pages held.table held.version) (j + 1) 0 c)) regs
+  contents_go g s x None is e = absurd (let f : None ≡ Some x = e in cc)
+  contents_go g s x (Some contents) is e =
+      let regs : contents.regs ≡ regs_at S g = sym (ap (λ (h : Contents). h.regs) (block_holds S g contents is).1) in
+      let item : record { syllable = s; block = g; pages = contents.pages; table = contents.table; version = contents.version } ≡ x = same_Some record { syllable = s; block = g; pages = contents.pages; table = contents.table; version = contents.version } x e in
+      ap (λ (c : Regs). put_back S j r g (deeper S (compose S F j contents.pages contents.table contents.version) (j + 1) 0 c)) regs
       ∙ ap (λ (y : Item). put_back S j r y.block (deeper S (compose S F j y.pages y.table y.version) (j + 1) 0 (regs_at S y.block))) item
 
   through_goes : (s : ℕ) (x : Item) (way : Way) → child_through S s way ≡ Some x
       → step_through deeper S F j r way ≡ put_back S j r x.block (deeper S (compose S F j x.pages x.table x.version) (j + 1) 0 (regs_at S x.block))
-  through_goes s x (Open g) e = held_goes g s x (block_of S g) refl e
+  through_goes s x (Open g) e = contents_go g s x (block_of S g) refl e
   through_goes s x (Shut l c p w) e = absurd (let f : None ≡ Some x = e in cc)
 
   slot_goes : (s : ℕ) (x : Item) (o : Option Slot) → child_at S s o ≡ Some x
@@ -238,14 +238,14 @@ module _ (deeper : Machine) (S : List ℕ) (F : List Slot) (j hart : ℕ) (r : R
           (slot_stops_below below (suc s) (suc s) h (slice_get F (suc s)) refl f)
 
   -- what that leaves
-  held_received : (g s : ℕ) (o : Option Held) → g < page_count S → HasBlock F r.next g → child_held s g o ≡ None → Received S F j [] r (child_step deeper S F j r g o)
-  held_received g s None inside has e = told_received S F j [] r g (malformed j r.next) inside has
-  held_received g s (Some held) inside has e = absurd (let f : Some record { syllable = s; block = g; pages = held.pages; table = held.table; version = held.version } ≡ None = e in cc)
+  contents_received : (g s : ℕ) (o : Option Contents) → g < page_count S → HasBlock F r.next g → child_with s g o ≡ None → Received S F j [] r (child_step deeper S F j r g o)
+  contents_received g s None inside has e = told_received S F j [] r g (malformed j r.next) inside has
+  contents_received g s (Some contents) inside has e = absurd (let f : Some record { syllable = s; block = g; pages = contents.pages; table = contents.table; version = contents.version } ≡ None = e in cc)
 
   through_received : (s : ℕ) (slot : Slot) (way : Way) → OpensInside (page_count S) F → slice_get F r.next ≡ Some slot → slot.write ≡ way → child_through S s way ≡ None → Received S F j [] r (step_through deeper S F j r way)
   through_received s slot (Open g) bounds there writes e =
       let has : HasBlock F r.next g = record { slot = slot; there = there; writes = writes } in
-      held_received g s (block_of S g) (writes_inside (page_count S) F r.next g bounds has) has e
+      contents_received g s (block_of S g) (writes_inside (page_count S) F r.next g bounds has) has e
   through_received s slot (Shut l c p w) bounds there writes e = tt
 
   slot_received : (s : ℕ) (o : Option Slot) → OpensInside (page_count S) F → slice_get F r.next ≡ o → child_at S s o ≡ None → Received S F j [] r (step_at deeper S F j r o)
@@ -300,16 +300,16 @@ record Child (S : List ℕ) (F : List Slot) (s : ℕ) (x : Item) : Type 0 where
   pub inside : (regs_at S x.block).next < x.pages
   pub has : HasBlock F s x.block
 
-held_inside : (S : List ℕ) (g s : ℕ) (x : Item) (o : Option Held) → block_of S g ≡ o → child_held s g o ≡ Some x → (regs_at S x.block).next < x.pages
-held_inside S g s x None is e = absurd (let f : None ≡ Some x = e in cc)
-held_inside S g s x (Some held) is e =
-    let regs : held.regs ≡ regs_at S g = sym (ap (λ (h : Held). h.regs) (block_holds S g held is).1) in
-    let item : record { syllable = s; block = g; pages = held.pages; table = held.table; version = held.version } ≡ x = same_Some record { syllable = s; block = g; pages = held.pages; table = held.table; version = held.version } x e in
+contents_inside : (S : List ℕ) (g s : ℕ) (x : Item) (o : Option Contents) → block_of S g ≡ o → child_with s g o ≡ Some x → (regs_at S x.block).next < x.pages
+contents_inside S g s x None is e = absurd (let f : None ≡ Some x = e in cc)
+contents_inside S g s x (Some contents) is e =
+    let regs : contents.regs ≡ regs_at S g = sym (ap (λ (h : Contents). h.regs) (block_holds S g contents is).1) in
+    let item : record { syllable = s; block = g; pages = contents.pages; table = contents.table; version = contents.version } ≡ x = same_Some record { syllable = s; block = g; pages = contents.pages; table = contents.table; version = contents.version } x e in
     subst (λ (y : Item). (regs_at S y.block).next < y.pages) item
-    (subst (λ (c : Regs). c.next < held.pages) regs (block_sized S g held is).next)
+    (subst (λ (c : Regs). c.next < contents.pages) regs (block_sized S g contents is).next)
 
 through_inside : (S : List ℕ) (s : ℕ) (x : Item) (way : Way) → child_through S s way ≡ Some x → (regs_at S x.block).next < x.pages
-through_inside S s x (Open g) e = held_inside S g s x (block_of S g) refl e
+through_inside S s x (Open g) e = contents_inside S g s x (block_of S g) refl e
 through_inside S s x (Shut l c p w) e = absurd (let f : None ≡ Some x = e in cc)
 
 slot_inside : (S : List ℕ) (s : ℕ) (x : Item) (o : Option Slot) → child_at S s o ≡ Some x → (regs_at S x.block).next < x.pages

@@ -17,7 +17,7 @@ use Rattle.hv_store.specs.declared.access.Way.TheVariants.{Open, Shut}
 use Rattle.hv_store.specs.Access.{read_through, get_at, get, write_through, put_at, clear_through, cleared_at, cleared}
 use Rattle.hv_sv32.specs.Entry.{is_faulty, is_leaf, is_plain, page_of, grants}
 use Rattle.hv_sv32.specs.Stop.{Walked, Found, TrapWith, RefusedBy}
-use Rattle.hv_sv32.specs.Walk.{barred, outside, placed, at_second, from_second, through_second, large_page, at_first, from_first, is_bare, through_first, walk_of}
+use Rattle.hv_sv32.specs.Walk.{barred, outside, located, at_second, from_second, through_second, large_page, at_first, from_first, is_bare, through_first, walk_of}
 use Rattle.hv_exec.specs.Answer.{Answer, Next, Trap, Load, Store, Enter}
 use Rattle.hv_exec.specs.Do.{do_of}
 use Rattle.hv_exec.specs.Memory.{lane_at}
@@ -70,13 +70,13 @@ either true x y p q = p
 either false x y p q = q
 
 module _ (S : List ℕ) (F : List Slot) (r : Regs) (address : ℕ) (a : Access) where
-  placed_passes : (page : ℕ) → walk_refusal (placed F page address a) ≡ None
+  placed_passes : (page : ℕ) → walk_refusal (located F page address a) ≡ None
   placed_passes page = either (nat_lt page (Rattle.std.specs.Prelude.length F)) (Found page (address % 4096)) (outside address a) refl refl
 
   second_passes : (e : ℕ) → walk_refusal (at_second F r address a e) ≡ None
   second_passes e =
-      either (is_faulty e) (barred address a) (cond (is_leaf e && grants r a e) (placed F (page_of e) address a) (barred address a)) refl
-      (either (is_leaf e && grants r a e) (placed F (page_of e) address a) (barred address a) (placed_passes (page_of e)) refl)
+      either (is_faulty e) (barred address a) (cond (is_leaf e && grants r a e) (located F (page_of e) address a) (barred address a)) refl
+      (either (is_leaf e && grants r a e) (located F (page_of e) address a) (barred address a) (placed_passes (page_of e)) refl)
 
   second_way : (k : ℕ) (way : Way) → walk_refusal (from_second F r address a (Some (read_through S way k Read))) ≡ refusal_through way k Read
   second_way k (Open g) = second_passes (word_at S g k)
@@ -102,7 +102,7 @@ module _ (S : List ℕ) (F : List Slot) (r : Regs) (address : ℕ) (a : Access) 
   first_entry e =
       let ask : Ask = record { page = page_of e; word = field_of address 12 10; access = Read } in
       at_entry (is_faulty e) (is_leaf e) ((field_of e 10 10 == 0) && grants r a e) (is_plain e)
-      (placed F (large_page e address) address a) (through_second S F r (page_of e) address a) (ask ∷ [])
+      (located F (large_page e address) address a) (through_second S F r (page_of e) address a) (ask ∷ [])
       (placed_passes (large_page e address))
       (second_slot (field_of address 12 10) (slice_get F (page_of e)) ∙ sym (first-one F ask))
 
@@ -114,7 +114,7 @@ module _ (S : List ℕ) (F : List Slot) (r : Regs) (address : ℕ) (a : Access) 
   first_slot k None = sym (first-empty F)
   first_slot k (Some s) = first_way k s.read
 
-  walk_by : (bare : Bool) → walk_refusal (cond bare (placed F (address / 4096) address a) (through_first S F r address a))
+  walk_by : (bare : Bool) → walk_refusal (cond bare (located F (address / 4096) address a) (through_first S F r address a))
       ≡ first_refusal F (cond bare [] (record { page = field_of r.satp 0 22; word = field_of address 22 10; access = Read } ∷ second_ask address (get S F (field_of r.satp 0 22) (field_of address 22 10) Read)))
   walk_by true = placed_passes (address / 4096) ∙ sym (first-empty F)
   walk_by false =

@@ -12,7 +12,7 @@ use Rattle.hv_store.specs.declared.access.Way.{Way}
 use Rattle.hv_store.specs.declared.access.Way.TheVariants.{Open, Shut}
 use Rattle.hv_store.specs.Access.{way_for, refused, identity, open_at}
 use Rattle.hv_store.proofs.Identity.{length-identity}
-use Rattle.hv_block.specs.Block.{Held, block_of}
+use Rattle.hv_block.specs.Block.{Contents, block_of}
 use Rattle.hv_map.specs.Item.{Item}
 use Rattle.hv_map.specs.Chain.{along, map_along, pin_of, map_of, running_path}
 use Rattle.hv_limits.specs.Limits.{depth_limit}
@@ -196,10 +196,10 @@ module _ (S path : List ℕ) (F : List Slot) (tells : TellsAll F) (trails : (i :
               let ways : Open g ≡ Open h = sym writes ∙ ap (λ (s : Slot). s.write) same ∙ opens in
               cc
 
-          by_block : (o : Option Held) → block_of S g ≡ o → IsRouted S path F hart c (blocked_by (length path) c.next o)
+          by_block : (o : Option Contents) → block_of S g ≡ o → IsRouted S path F hart c (blocked_by (length path) c.next o)
           unfolding IsBad
           by_block None is = ends_bad none_refused (some, short, record { slot = slot; host = g; there = there; writes = writes; bad = is })
-          by_block (Some held) is = ends_none none_refused not_deep (λ m. absurd (let f : None ≡ Some held = sym m.2.bad ∙ ap (block_of S) (sym (same_host m.2.slot m.2.host m.2.there m.2.writes)) ∙ is in cc))
+          by_block (Some contents) is = ends_none none_refused not_deep (λ m. absurd (let f : None ≡ Some contents = sym m.2.bad ∙ ap (block_of S) (sym (same_host m.2.slot m.2.host m.2.there m.2.writes)) ∙ is in cc))
 
         -- it isn't
         shut_refused : (slot : Slot) (l k p : ℕ) (w : Option ℕ) (e : Refusal) → slice_get F c.next ≡ Some slot → slot.write ≡ Shut l k p w → Some (refused l k p w 0 Write) ≡ Some e → IsRouted S path F hart c (Some e)

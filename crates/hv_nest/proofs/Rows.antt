@@ -6,7 +6,7 @@ use Rattle.std.proofs.lemmas.Option.{same_Some}
 use Rattle.hv_word.specs.Storage.{page_count}
 use Rattle.hv_cpu.specs.Regs.{Regs}
 use Rattle.hv_csr.specs.Traps.{take_trap_of}
-use Rattle.hv_csr.specs.Interrupts.{by_urgency, first_in, has_line, pending_of, among, or_else, is_open_m, raised_m, is_open_s, raised_s}
+use Rattle.hv_csr.specs.Interrupts.{by_urgency, first_in, has_line, pending_of, most_urgent_of, or_else, is_open_m, raised_m, is_open_s, raised_s}
 use Rattle.hv_store.specs.declared.access.Refusal.{Refusal}
 use Rattle.hv_store.specs.declared.access.Slot.{Slot}
 use Rattle.hv_store.specs.declared.access.Way.{Way}
@@ -15,7 +15,7 @@ use Rattle.hv_store.specs.Access.{identity}
 use Rattle.hv_store.proofs.Identity.{length-identity}
 use Rattle.hv_exec.specs.Act.{act_of}
 use Rattle.hv_block.specs.declared.Block.{Block}
-use Rattle.hv_block.specs.Block.{Held, block_of, put_regs}
+use Rattle.hv_block.specs.Block.{Contents, block_of, put_regs}
 use Rattle.hv_map.specs.Item.{Item}
 use Rattle.hv_map.specs.Compose.{compose}
 use Rattle.hv_map.specs.Chain.{along, map_along}
@@ -47,7 +47,7 @@ first_small (i ∷ ks) set k h e = by (first_small ks set k h.1) (has_line set i
     by rest true p = subst (λ (n : ℕ). n < 16) (same_Some i k p) h.0
     by rest false p = rest p
 
-among_small : (open_to : Bool) (set k : ℕ) → among open_to set ≡ Some k → k < 16
+among_small : (open_to : Bool) (set k : ℕ) → most_urgent_of open_to set ≡ Some k → k < 16
 unfolding all_small
 among_small true set k e = first_small by_urgency set k (lit< tt, (lit< tt, (lit< tt, (lit< tt, (lit< tt, (lit< tt, tt)))))) e
 among_small false set k e = absurd (none-some e)
@@ -57,7 +57,7 @@ among_small false set k e = absurd (none-some e)
 
 pub pending_small : (r : Regs) (k : ℕ) → Some k ≡ pending_of r → k < 16
 pending_small r k e =
-    or_small (among (is_open_m r) (raised_m r)) (among (is_open_s r) (raised_s r)) (among_small (is_open_m r) (raised_m r) k) (among_small (is_open_s r) (raised_s r) k) (sym e)
+    or_small (most_urgent_of (is_open_m r) (raised_m r)) (most_urgent_of (is_open_s r) (raised_s r)) (among_small (is_open_m r) (raised_m r) k) (among_small (is_open_s r) (raised_s r) k) (sym e)
   where
     or_small : (a b : Option ℕ) → (a ≡ Some k → k < 16) → (b ≡ Some k → k < 16) → or_else a b ≡ Some k → k < 16
     or_small (Some i) b f g p = f p
@@ -75,12 +75,12 @@ found_steps : (deeper : Machine) (S : List ℕ) (F : List Slot) (j : ℕ) (r : R
 unfolding by_found
 found_steps deeper S F j r = at (slice_get F r.next)
   where
-    held : (g : ℕ) (o : Option Held) → child_step deeper S F j r g o ≡ by_found deeper S F j r (Some (found_in g o))
-    held g None = refl
-    held g (Some h) = refl
+    contents : (g : ℕ) (o : Option Contents) → child_step deeper S F j r g o ≡ by_found deeper S F j r (Some (found_in g o))
+    contents g None = refl
+    contents g (Some h) = refl
 
     through : (way : Way) → child_through deeper S F j r way ≡ by_found deeper S F j r (Some (found_through S way))
-    through (Open g) = held g (block_of S g)
+    through (Open g) = contents g (block_of S g)
     through (Shut l c p w) = refl
 
     at : (o : Option Slot) → child_at deeper S F j r o ≡ by_found deeper S F j r (found_at S o)

@@ -17,7 +17,7 @@ use Rattle.hv_exec.specs.Do.{do_of}
 use Rattle.hv_exec.specs.Memory.{lane_at, extended}
 use Rattle.hv_exec.specs.Act.{Acted, Done, Refused, trapped, loaded, load_at, stored, store_at, entered, enter_at, carried_out, decoded, fetched, fetch_at, act_of}
 use Rattle.hv_map.specs.Carried.{MapLike}
-use Rattle.hv_nest.specs.Simulation.{Simulation, raised}
+use Rattle.hv_nest.specs.Simulation.{Simulation, deepened}
 use Rattle.hv_nest.proofs.SimulatedAsks.{AnswerLike, answer_further_out, both_answer, both_refuse, AskLike, both_outside, both_inside, got_like, put_like, cleared_like}
 use Rattle.hv_nest.proofs.SimulatedWalks.{WalkLike, walk_further_out, both_find, both_trap, walk_refused, walk_like}
 
@@ -25,7 +25,7 @@ use Rattle.hv_nest.proofs.SimulatedWalks.{WalkLike, walk_further_out, both_find,
 pub data ActLike (k : ℕ) (R : List ℕ → List ℕ → Type 0) : Acted → Acted → Type 0 where
   act_further_out : (e : Refusal) (A : Acted) → e.level < k → ActLike k R (Refused e) A
   both_done : (S T : List ℕ) (r : Regs) → R S T → ActLike k R (Done S r) (Done T r)
-  act_refused : (e : Refusal) → ActLike k R (Refused (raised k e)) (Refused e)
+  act_refused : (e : Refusal) → ActLike k R (Refused (deepened k e)) (Refused e)
 
 module _ (k : ℕ) (F : List Slot) (R : List ℕ → List ℕ → Type 0) (sim : Simulation k F R) (S T : List ℕ) (related : R S T) where
   trapped_like : (r : Regs) (cause tval : ℕ) → ActLike k R (trapped S r cause tval) (trapped T r cause tval)

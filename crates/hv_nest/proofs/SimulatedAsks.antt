@@ -13,13 +13,13 @@ use Rattle.hv_store.specs.declared.access.Way.TheVariants.{Open, Shut}
 use Rattle.hv_store.specs.Access.{way_for, refused, read_through, get_at, get, write_through, put_at, set, without_fault, clear_through, cleared_at, cleared}
 use Rattle.hv_map.specs.Carried.{WayLike, SlotLike, MapLike, ShutBelow}
 use Rattle.hv_map.specs.Compose.{reading}
-use Rattle.hv_nest.specs.Simulation.{Sees, Simulation, raised}
+use Rattle.hv_nest.specs.Simulation.{Sees, Simulation, deepened}
 
 -- the first is refused by an ancestor, or both are refused, with levels raised by k, or Q holds of what both give
 pub data AnswerLike {A B : Type 0} (k : ℕ) (Q : A → B → Type 0) : Result A Refusal → Result B Refusal → Type 0 where
   answer_further_out : (e : Refusal) (y : Result B Refusal) → e.level < k → AnswerLike k Q (Err e) y
   both_answer : (a : A) (b : B) → Q a b → AnswerLike k Q (Ok a) (Ok b)
-  both_refuse : (e : Refusal) → AnswerLike k Q (Err (raised k e)) (Err e)
+  both_refuse : (e : Refusal) → AnswerLike k Q (Err (deepened k e)) (Err e)
 
 -- none is the answer of a page that isn't there
 pub data AskLike {A B : Type 0} (k : ℕ) (Q : A → B → Type 0) : Option (Result A Refusal) → Option (Result B Refusal) → Type 0 where
@@ -30,7 +30,7 @@ pub refused_level : (l c p : ℕ) (w : Option ℕ) (n : ℕ) (a : Access) → (r
 refused_level l c p None n a = refl
 refused_level l c p (Some w) n a = refl
 
-pub refused_raised : (k l c p : ℕ) (w : Option ℕ) (n : ℕ) (a : Access) → refused (l + k) c p w n a ≡ raised k (refused l c p w n a)
+pub refused_raised : (k l c p : ℕ) (w : Option ℕ) (n : ℕ) (a : Access) → refused (l + k) c p w n a ≡ deepened k (refused l c p w n a)
 refused_raised k l c p None n a = refl
 refused_raised k l c p (Some w) n a = refl
 
@@ -55,7 +55,7 @@ module _ {A B : Type 0} (k : ℕ) (F : List Slot) (below : ShutBelow k F) (Q : A
     raised_like : (l c p : ℕ) (w : Option ℕ) → AnswerLike k Q (f (Shut (l + k) c p w)) (g (Shut l c p w))
     raised_like l c p w =
         subst (λ (x : Result A Refusal). AnswerLike k Q x (g (Shut l c p w))) (sym (f_shut (l + k) c p w ∙ ap Err (refused_raised k l c p w n b)))
-        (subst (λ (y : Result B Refusal). AnswerLike k Q (Err (raised k (refused l c p w n b))) y) (sym (g_shut l c p w)) (both_refuse (refused l c p w n b)))
+        (subst (λ (y : Result B Refusal). AnswerLike k Q (Err (deepened k (refused l c p w n b))) y) (sym (g_shut l c p w)) (both_refuse (refused l c p w n b)))
 
     opened_like : (y : ℕ) (s : Slot) → slice_get F y ≡ Some s → (way : Way) → way_for s a ≡ way → AnswerLike k Q (f way) (g (Open y))
     opened_like y s is (Open x) e = both_open y x s is e

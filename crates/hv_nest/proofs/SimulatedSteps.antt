@@ -12,13 +12,13 @@ use Rattle.hv_store.specs.declared.access.Way.{Way}
 use Rattle.hv_store.specs.declared.access.Way.TheVariants.{Open, Shut}
 use Rattle.hv_store.specs.Access.{refused}
 use Rattle.hv_exec.specs.Act.{Acted, act_of}
-use Rattle.hv_block.specs.Block.{Held, block_of, put_regs, with_fault, access_word}
+use Rattle.hv_block.specs.Block.{Contents, block_of, put_regs, with_fault, access_word}
 use Rattle.hv_block.proofs.Blocks.{block_alike, block_sized}
 use Rattle.hv_map.specs.Carried.{WayLike, SlotLike, MapLike}
 use Rattle.hv_map.specs.Compose.{compose, reading}
 use Rattle.hv_map.proofs.Like.{composed_like}
 use Rattle.hv_nest.specs.Step.{Stepped, Worked, Recalled, Faulted, Barred, Machine, idle, interrupt_of, act_step, tell_of, put_back, malformed, too_deep, child_step, child_through, child_at, next_step, step_on, step_with, step_of}
-use Rattle.hv_nest.specs.Simulation.{Sees, Simulation, raised, StepLike, refused_further_out, both_work, both_recall, both_fault, both_refused}
+use Rattle.hv_nest.specs.Simulation.{Sees, Simulation, deepened, StepLike, refused_further_out, both_work, both_recall, both_fault, both_refused}
 use Rattle.hv_nest.proofs.SimulatedAsks.{refused_below, refused_raised, opened}
 use Rattle.hv_nest.proofs.SimulatedActs.{ActLike, act_further_out, both_done, act_refused, act_like}
 use Rattle.hv_nest.proofs.SimulatedPuts.{put_regs_like, with_fault_like}
@@ -50,14 +50,14 @@ module _ (k : ℕ) (F : List Slot) (R : List ℕ → List ℕ → Type 0) (sim :
         subst (λ (t : Bool). StepLike k R (cond t (Faulted (j + k) e.cause e.address e.access (with_fault S x e.cause e.address (access_word e.access)) (idle r)) (Barred e)) Y) (sym (ne_eqb e.level (j + k) ne))
         (refused_further_out e Y low)
 
-    told_like : (j : ℕ) (r : Regs) (e : Refusal) → StepLike k R (tell_of S (j + k) r x (raised k e)) (tell_of T j r y e)
+    told_like : (j : ℕ) (r : Regs) (e : Refusal) → StepLike k R (tell_of S (j + k) r x (deepened k e)) (tell_of T j r y e)
     told_like j r e =
-        subst (λ (t : Bool). StepLike k R (cond t (Faulted (j + k) e.cause e.address e.access (with_fault S x e.cause e.address (access_word e.access)) (idle r)) (Barred (raised k e))) (tell_of T j r y e)) (sym (same_test e.level j k))
+        subst (λ (t : Bool). StepLike k R (cond t (Faulted (j + k) e.cause e.address e.access (with_fault S x e.cause e.address (access_word e.access)) (idle r)) (Barred (deepened k e))) (tell_of T j r y e)) (sym (same_test e.level j k))
         (by (e.level == j))
       where
         by : (t : Bool)
             → StepLike k R
-            (cond t (Faulted (j + k) e.cause e.address e.access (with_fault S x e.cause e.address (access_word e.access)) (idle r)) (Barred (raised k e)))
+            (cond t (Faulted (j + k) e.cause e.address e.access (with_fault S x e.cause e.address (access_word e.access)) (idle r)) (Barred (deepened k e)))
             (cond t (Faulted j e.cause e.address e.access (with_fault T y e.cause e.address (access_word e.access)) (idle r)) (Barred e))
         by true =
             both_fault j e.cause e.address e.access (with_fault S x e.cause e.address (access_word e.access)) (with_fault T y e.cause e.address (access_word e.access)) (idle r)
@@ -121,19 +121,19 @@ module _ (k : ℕ) (F : List Slot) (R : List ℕ → List ℕ → Type 0) (sim :
           (deeper S T (compose S H (j + k) n t v) (compose T G j n t v) (j + 1) 0 q related
           (composed_like k F S T sees.below sees.agree H G like j n t v bound))
 
-      held_like : (y x : ℕ) → reading F y ≡ Some (Open x) → (o : Option Held) → block_of T y ≡ o → StepLike k R (child_step d S H (j + k) r x o) (child_step d' T G j r y o)
-      held_like y x is_open None e = told_like y x is_open j r (malformed j r.next)
-      held_like y x is_open (Some held) e =
+      contents_like : (y x : ℕ) → reading F y ≡ Some (Open x) → (o : Option Contents) → block_of T y ≡ o → StepLike k R (child_step d S H (j + k) r x o) (child_step d' T G j r y o)
+      contents_like y x is_open None e = told_like y x is_open j r (malformed j r.next)
+      contents_like y x is_open (Some contents) e =
           put_back_like y x is_open j r
-          (d S (compose S H (j + k) held.pages held.table held.version) (j + k + 1) 0 held.regs)
-          (d' T (compose T G j held.pages held.table held.version) (j + 1) 0 held.regs)
-          (composed_deeper held.pages held.table held.version held.regs (block_sized T y held e).pages)
+          (d S (compose S H (j + k) contents.pages contents.table contents.version) (j + k + 1) 0 contents.regs)
+          (d' T (compose T G j contents.pages contents.table contents.version) (j + 1) 0 contents.regs)
+          (composed_deeper contents.pages contents.table contents.version contents.regs (block_sized T y contents e).pages)
 
       block_like : (y x : ℕ) (s : Slot) → slice_get F y ≡ Some s → s.read ≡ Open x → StepLike k R (child_step d S H (j + k) r x (block_of S x)) (child_step d' T G j r y (block_of T y))
       block_like y x s is read =
-          subst (λ (o : Option Held). StepLike k R (child_step d S H (j + k) r x o) (child_step d' T G j r y (block_of T y)))
+          subst (λ (o : Option Contents). StepLike k R (child_step d S H (j + k) r x o) (child_step d' T G j r y (block_of T y)))
           (sym (block_alike S T x y (λ w lt. sees.agree y x w s is read lt)))
-          (held_like y x (opened F y x s is read) (block_of T y) refl)
+          (contents_like y x (opened F y x s is read) (block_of T y) refl)
 
       stopped_like : (l c p : ℕ) (w : Option ℕ) (Y : Stepped) → l < k → StepLike k R (child_through d S H (j + k) r (Shut l c p w)) Y
       stopped_like l c p w Y low = refused_further_out (refused l c p w 0 Write) Y (refused_below k l c p w 0 Write low)

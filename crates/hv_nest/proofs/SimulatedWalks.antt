@@ -12,9 +12,9 @@ use Rattle.hv_store.specs.declared.access.Slot.{Slot}
 use Rattle.hv_store.specs.Access.{get, open_at}
 use Rattle.hv_sv32.specs.Entry.{is_faulty, is_leaf, is_plain, page_of, grants}
 use Rattle.hv_sv32.specs.Stop.{Walked, Found, TrapWith, RefusedBy}
-use Rattle.hv_sv32.specs.Walk.{page_fault_of, access_fault_of, barred, outside, placed, at_second, from_second, through_second, large_page, at_first, from_first, through_first, is_bare, walk_of}
+use Rattle.hv_sv32.specs.Walk.{page_fault_of, access_fault_of, barred, outside, located, at_second, from_second, through_second, large_page, at_first, from_first, through_first, is_bare, walk_of}
 use Rattle.hv_map.specs.Carried.{SlotLike, MapLike}
-use Rattle.hv_nest.specs.Simulation.{Simulation, raised}
+use Rattle.hv_nest.specs.Simulation.{Simulation, deepened}
 use Rattle.hv_nest.proofs.SimulatedAsks.{AnswerLike, answer_further_out, both_answer, both_refuse, AskLike, both_outside, both_inside, got_like}
 
 -- the walk is refused by an ancestor, or finds the same place, or ends in the same trap or the same refusal told further in
@@ -22,7 +22,7 @@ pub data WalkLike (k : ℕ) : Walked → Walked → Type 0 where
   walk_further_out : (e : Refusal) (W : Walked) → e.level < k → WalkLike k (RefusedBy e) W
   both_find : (page offset : ℕ) → offset < 4096 → WalkLike k (Found page offset) (Found page offset)
   both_trap : (cause tval : ℕ) → WalkLike k (TrapWith cause tval) (TrapWith cause tval)
-  walk_refused : (e : Refusal) → WalkLike k (RefusedBy (raised k e)) (RefusedBy e)
+  walk_refused : (e : Refusal) → WalkLike k (RefusedBy (deepened k e)) (RefusedBy e)
 
 -- maps that are alike have as many slots
 none_some : (k : ℕ) (F : List Slot) (s : Slot) (o p : Option Slot) → o ≡ None → p ≡ Some s → SlotLike k F o p → ⊥
@@ -43,9 +43,9 @@ same_length k F H G like = elim (cases_order (length H) (length G)) [
 ]
 
 module _ (k : ℕ) (F : List Slot) (R : List ℕ → List ℕ → Type 0) (sim : Simulation k F R) (S T : List ℕ) (related : R S T) (H G : List Slot) (like : MapLike k F H G) where
-  placed_like : (page address : ℕ) (a : Access) → WalkLike k (placed H page address a) (placed G page address a)
+  placed_like : (page address : ℕ) (a : Access) → WalkLike k (located H page address a) (located G page address a)
   placed_like page address a =
-      subst (λ (n : ℕ). WalkLike k (placed H page address a) (cond (nat_lt page n) (Found page (address % 4096)) (outside address a))) (same_length k F H G like) (by (nat_lt page (length H)))
+      subst (λ (n : ℕ). WalkLike k (located H page address a) (cond (nat_lt page n) (Found page (address % 4096)) (outside address a))) (same_length k F H G like) (by (nat_lt page (length H)))
     where
       by : (b : Bool) → WalkLike k (cond b (Found page (address % 4096)) (outside address a)) (cond b (Found page (address % 4096)) (outside address a))
       by true = both_find page (address % 4096) (omega arith)
@@ -54,7 +54,7 @@ module _ (k : ℕ) (F : List Slot) (R : List ℕ → List ℕ → Type 0) (sim :
   second_like : (r : Regs) (address : ℕ) (a : Access) (e : ℕ) → WalkLike k (at_second H r address a e) (at_second G r address a e)
   second_like r address a e = by (is_faulty e) (is_leaf e && grants r a e)
     where
-      by : (b d : Bool) → WalkLike k (cond b (barred address a) (cond d (placed H (page_of e) address a) (barred address a))) (cond b (barred address a) (cond d (placed G (page_of e) address a) (barred address a)))
+      by : (b d : Bool) → WalkLike k (cond b (barred address a) (cond d (located H (page_of e) address a) (barred address a))) (cond b (barred address a) (cond d (located G (page_of e) address a) (barred address a)))
       by true d = both_trap (page_fault_of a) address
       by false true = placed_like (page_of e) address a
       by false false = both_trap (page_fault_of a) address
@@ -79,8 +79,8 @@ module _ (k : ℕ) (F : List Slot) (R : List ℕ → List ℕ → Type 0) (sim :
     where
       by : (b d m p : Bool)
           → WalkLike k
-          (cond b (barred address a) (cond d (cond m (placed H (large_page e address) address a) (barred address a)) (cond p (through_second S H r (page_of e) address a) (barred address a))))
-          (cond b (barred address a) (cond d (cond m (placed G (large_page e address) address a) (barred address a)) (cond p (through_second T G r (page_of e) address a) (barred address a))))
+          (cond b (barred address a) (cond d (cond m (located H (large_page e address) address a) (barred address a)) (cond p (through_second S H r (page_of e) address a) (barred address a))))
+          (cond b (barred address a) (cond d (cond m (located G (large_page e address) address a) (barred address a)) (cond p (through_second T G r (page_of e) address a) (barred address a))))
       by true d m p = both_trap (page_fault_of a) address
       by false true true p = placed_like (large_page e address) address a
       by false true false p = both_trap (page_fault_of a) address
@@ -100,7 +100,7 @@ module _ (k : ℕ) (F : List Slot) (R : List ℕ → List ℕ → Type 0) (sim :
   pub walk_like : (r : Regs) (address : ℕ) (a : Access) → WalkLike k (walk_of S H r address a) (walk_of T G r address a)
   walk_like r address a = by (is_bare r a)
     where
-      by : (b : Bool) → WalkLike k (cond b (placed H (address / 4096) address a) (through_first S H r address a)) (cond b (placed G (address / 4096) address a) (through_first T G r address a))
+      by : (b : Bool) → WalkLike k (cond b (located H (address / 4096) address a) (through_first S H r address a)) (cond b (located G (address / 4096) address a) (through_first T G r address a))
       by true = placed_like (address / 4096) address a
       by false =
           from_first_like r address a (get S H (field_of r.satp 0 22) (field_of address 22 10) Read) (get T G (field_of r.satp 0 22) (field_of address 22 10) Read)

@@ -36,8 +36,8 @@ pub record Simulation (k : ℕ) (F : List Slot) (R : List ℕ → List ℕ → T
       → R (with_word S x w v) (with_word T y w v)
 
 -- a refusal told k levels further in
-abbrev pub raised : ℕ → Refusal → Refusal
-raised k e = record { level = e.level + k; cause = e.cause; address = e.address; access = e.access }
+abbrev pub deepened : ℕ → Refusal → Refusal
+deepened k e = record { level = e.level + k; cause = e.cause; address = e.address; access = e.access }
 
 -- How a step of the machine at level k, or of one inside it, is the step with its ancestors left out: it is refused by
 -- an ancestor, or comes to the same, with levels raised by k, with the same registers, and with storages of which R
@@ -49,7 +49,7 @@ pub data StepLike (k : ℕ) (R : List ℕ → List ℕ → Type 0) : Stepped →
   both_fault : (l cause address : ℕ) (a : Access) (S T : List ℕ) (r : Regs)
       → R S T
       → StepLike k R (Faulted (l + k) cause address a S r) (Faulted l cause address a T r)
-  both_refused : (e : Refusal) → StepLike k R (Barred (raised k e)) (Barred e)
+  both_refused : (e : Refusal) → StepLike k R (Barred (deepened k e)) (Barred e)
 
 -- S and T after a step that began with A and B: still T is what the machine sees of S, S is A off the pages that F
 -- opens for reading, and T is B on the pages that F doesn't open for reading.

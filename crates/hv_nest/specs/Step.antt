@@ -14,7 +14,7 @@ use Rattle.hv_store.specs.declared.access.Way.{Way}
 use Rattle.hv_store.specs.declared.access.Way.TheVariants.{Open, Shut}
 use Rattle.hv_store.specs.Access.{identity, refused}
 use Rattle.hv_exec.specs.Act.{Acted, Done, Refused, act_of}
-use Rattle.hv_block.specs.Block.{Held, block_of, put_regs, with_fault, access_word}
+use Rattle.hv_block.specs.Block.{Contents, block_of, put_regs, with_fault, access_word}
 use Rattle.hv_limits.specs.Limits.{depth_limit}
 use Rattle.hv_map.specs.Compose.{compose}
 
@@ -69,10 +69,10 @@ abbrev pub too_deep : ℕ → Refusal
 too_deep s = record { level = 0; cause = 5; address = 4096 * s; access = Read }
 
 -- the child whose block is in bare page g makes the step; it is hart 0 of its machine
-abbrev pub child_step : Machine → List ℕ → List Slot → ℕ → Regs → ℕ → Option Held → Stepped
+abbrev pub child_step : Machine → List ℕ → List Slot → ℕ → Regs → ℕ → Option Contents → Stepped
 child_step deeper S F j r g None = tell_of S j r g (malformed j r.next)
-child_step deeper S F j r g (Some held) =
-    put_back S j r g (deeper S (compose S F j held.pages held.table held.version) (j + 1) 0 held.regs)
+child_step deeper S F j r g (Some contents) =
+    put_back S j r g (deeper S (compose S F j contents.pages contents.table contents.version) (j + 1) 0 contents.regs)
 
 abbrev pub child_through : Machine → List ℕ → List Slot → ℕ → Regs → Way → Stepped
 child_through deeper S F j r (Open g) = child_step deeper S F j r g (block_of S g)

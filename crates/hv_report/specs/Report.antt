@@ -96,9 +96,9 @@ report_of t plan st =
     ++ (harts_text st ++ (watches_text st t.watches ++ (faults_text t.kept ++ dumps_text st.storage plan.dumps)))
 
 -- the hart of a watch is there, and so is the bare page of its machine's block
-abbrev pub IsThere : State → WatchRecord → Type 0
-IsThere st w = (w.hart < length st.harts) × IfSome w.block (λ g. g < page_count st.storage)
+abbrev pub IsInState : State → WatchRecord → Type 0
+IsInState st w = (w.hart < length st.harts) × IfSome w.block (λ g. g < page_count st.storage)
 
 -- that holds of all watches
-abbrev pub AreThere : State → List WatchRecord → Type 0
-AreThere st watches = All (IsThere st) watches
+abbrev pub AreInState : State → List WatchRecord → Type 0
+AreInState st watches = All (IsInState st) watches

@@ -1,7 +1,7 @@
 //! The text of a report.
 
 ghost use Rattle.std.specs.Prelude.{◌≡◌, ◌++◌, IfOk, OnOk};
-ghost use Rattle.hv_report.specs.Report.{AreThere, IsThere, faults_text, hart_line, harts_text, head_line, report_of, watch_line, watch_text, watches_text};
+ghost use Rattle.hv_report.specs.Report.{AreInState, IsInState, faults_text, hart_line, harts_text, head_line, report_of, watch_line, watch_text, watches_text};
 
 use crate::dumps::put_dumps;
 use crate::machine::machine_words;
@@ -23,7 +23,7 @@ pub fn report<N: Nested>(
     played: &Record,
     plan: &Plan,
 ) -> Result<Vec<u8>, AllocError>
-    requires { AreThere (N.state nested.old) (played.now).watches }
+    requires { AreInState (N.state nested.old) (played.now).watches }
     ensures text { IfOk result (λ text. text.items ≡ report_of played.now plan.now (N.state nested.old)) }
     ensures same { N.state nested.new ≡ N.state nested.old }
 {
@@ -77,7 +77,7 @@ fn put_watches<N: Nested>(
     nested: &N,
     watches: &[WatchRow],
 ) -> Result<(), AllocError>
-    requires { AreThere (N.state nested.now) watches.now }
+    requires { AreInState (N.state nested.now) watches.now }
     ensures { OnOk result (out.new.items ≡ out.old.items ++ watches_text (N.state nested.now) watches.now) }
 {
     for watch in watches {
@@ -93,7 +93,7 @@ fn put_watch<N: Nested>(
     nested: &N,
     watch: &WatchRow,
 ) -> Result<(), AllocError>
-    requires { IsThere (N.state nested.now) watch.now }
+    requires { IsInState (N.state nested.now) watch.now }
     ensures { OnOk result (out.new.items ≡ out.old.items ++ watch_text (N.state nested.now) watch.now) }
 {
     put_watch_line(out, watch)?;

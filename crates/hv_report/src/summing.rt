@@ -1,7 +1,7 @@
 //! The summary of a generated job.
 
 ghost use Rattle.std.specs.Prelude.{◌≡◌, ◌%◌, ◌^◌, ◌++◌, IfOk, OnOk, sum};
-ghost use Rattle.hv_report.specs.Report.{AreThere, IsThere};
+ghost use Rattle.hv_report.specs.Report.{AreInState, IsInState};
 ghost use Rattle.hv_report.specs.Summary.{number_line, sum_lines, sum_of, summary_of, summed_watch, summed_watches};
 
 use crate::machine::machine_words;
@@ -22,7 +22,7 @@ pub fn summary<N: Nested>(
     number: u32,
     depth: u32,
 ) -> Result<Vec<u8>, AllocError>
-    requires { AreThere (N.state nested.old) (played.now).watches }
+    requires { AreInState (N.state nested.old) (played.now).watches }
     ensures text { IfOk result (λ text. text.items ≡ summary_of number depth played.now (N.state nested.old)) }
     ensures same { N.state nested.new ≡ N.state nested.old }
 {
@@ -50,7 +50,7 @@ fn put_summed<N: Nested>(
     nested: &N,
     watches: &[WatchRow],
 ) -> Result<(), AllocError>
-    requires { AreThere (N.state nested.now) watches.now }
+    requires { AreInState (N.state nested.now) watches.now }
     ensures { OnOk result (out.new.items ≡ out.old.items ++ summed_watches (N.state nested.now) watches.now) }
 {
     for watch in watches {
@@ -61,7 +61,7 @@ fn put_summed<N: Nested>(
 
 // Appends one watch.
 fn put_sum<N: Nested>(out: &mut Vec<u8>, nested: &N, watch: &WatchRow) -> Result<(), AllocError>
-    requires { IsThere (N.state nested.now) watch.now }
+    requires { IsInState (N.state nested.now) watch.now }
     ensures { OnOk result (out.new.items ≡ out.old.items ++ summed_watch (N.state nested.now) watch.now) }
 {
     put_watch_line(out, watch)?;

@@ -74,11 +74,11 @@ abbrev pub admits : Regs → Access → ℕ → Bool
 admits r a e = if effective_mode r a == 0 then is_user e else (not (is_user e) || reaches_user r a)
 
 -- the marks that software has set before: A for each access, and D for a store
-abbrev pub is_marked : Access → ℕ → Bool
-is_marked Fetch e = is_accessed e
-is_marked Read e = is_accessed e
-is_marked Write e = is_accessed e && is_dirty e
+abbrev pub shows_use : Access → ℕ → Bool
+shows_use Fetch e = is_accessed e
+shows_use Read e = is_accessed e
+shows_use Write e = is_accessed e && is_dirty e
 
 -- whether a leaf lets an access through
 abbrev pub grants : Regs → Access → ℕ → Bool
-grants r a e = permits r a e && (admits r a e && is_marked a e)
+grants r a e = permits r a e && (admits r a e && shows_use a e)

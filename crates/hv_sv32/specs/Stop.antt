@@ -23,9 +23,9 @@ IsCause (Trap cause tval) = cause < 16
 IsCause (Refused refusal) = Unit {0}
 
 -- a refusal comes from a map whose level is below this
-abbrev pub IsBelow : ℕ → Stop → Type 0
-IsBelow depth (Trap cause tval) = Unit {0}
-IsBelow depth (Refused refusal) = refusal.level < depth
+abbrev pub RefusesBelow : ℕ → Stop → Type 0
+RefusesBelow depth (Trap cause tval) = Unit {0}
+RefusesBelow depth (Refused refusal) = refusal.level < depth
 
 -- An answer fits the machine with the map F: an address lies in a page of it and has at most 34 bits, a cause is one of
 -- the numbers 0 to 15, and a refusal's level is below the machine's.
@@ -33,4 +33,4 @@ pub record FitsMachine (F : List Slot) (depth : ℕ) (answer : Result ℕ Stop) 
   pub inside : IfOk answer (λ place. place / 4096 < length F)
   pub short : IfOk answer (λ place. place < 2 ^ 34)
   pub cause : IfErr answer IsCause
-  pub level : IfErr answer (IsBelow depth)
+  pub level : IfErr answer (RefusesBelow depth)

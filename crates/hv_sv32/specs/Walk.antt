@@ -30,14 +30,14 @@ abbrev pub outside : ℕ → Access → Walked
 outside address a = TrapWith (access_fault_of a) address
 
 -- the place of an address in a page of the machine, which has one slot for each of its pages
-abbrev pub placed : List Slot → ℕ → ℕ → Access → Walked
-placed F page address a = if nat_lt page (length F) then Found page (address % 4096) else outside address a
+abbrev pub located : List Slot → ℕ → ℕ → Access → Walked
+located F page address a = if nat_lt page (length F) then Found page (address % 4096) else outside address a
 
 -- the entry of a table of the second level: only a leaf is of use there
 abbrev pub at_second : List Slot → Regs → ℕ → Access → ℕ → Walked
 at_second F r address a e =
     if is_faulty e then barred address a
-    else if is_leaf e && grants r a e then placed F (page_of e) address a
+    else if is_leaf e && grants r a e then located F (page_of e) address a
     else barred address a
 
 abbrev pub from_second : List Slot → Regs → ℕ → Access → Option (Result ℕ Refusal) → Walked
@@ -58,7 +58,7 @@ abbrev pub at_first : List ℕ → List Slot → Regs → ℕ → Access → ℕ
 at_first S F r address a e =
     if is_faulty e then barred address a
     else if is_leaf e then
-    (if (field_of e 10 10 == 0) && grants r a e then placed F (large_page e address) address a else barred address a)
+    (if (field_of e 10 10 == 0) && grants r a e then located F (large_page e address) address a else barred address a)
     else if is_plain e then through_second S F r (page_of e) address a
     else barred address a
 
@@ -80,4 +80,4 @@ is_bare r a = (effective_mode r a == 3) || (field_of r.satp 31 1 == 0)
 -- where the address of an access lies in a machine with storage S and map F
 abbrev pub walk_of : List ℕ → List Slot → Regs → ℕ → Access → Walked
 walk_of S F r address a =
-    if is_bare r a then placed F (address / 4096) address a else through_first S F r address a
+    if is_bare r a then located F (address / 4096) address a else through_first S F r address a

@@ -89,8 +89,8 @@ fn admits(cpu: &Cpu, access: Access, entry: u32) -> bool
 }
 
 // Whether software has marked a leaf as accessed, and for a store as dirty.
-fn is_marked(access: Access, entry: u32) -> bool
-    ensures { result ≡ spec.is_marked access entry }
+fn shows_use(access: Access, entry: u32) -> bool
+    ensures { result ≡ spec.shows_use access entry }
 {
     has_bit::<ACCESSED>(entry) && (access != Access::Write || has_bit::<DIRTY>(entry))
 }
@@ -99,5 +99,5 @@ fn is_marked(access: Access, entry: u32) -> bool
 pub fn grants(cpu: &Cpu, access: Access, entry: u32) -> bool
     ensures { result ≡ spec.grants cpu.now access entry }
 {
-    permits(cpu, access, entry) && admits(cpu, access, entry) && is_marked(access, entry)
+    permits(cpu, access, entry) && admits(cpu, access, entry) && shows_use(access, entry)
 }

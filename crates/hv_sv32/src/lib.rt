@@ -4,7 +4,7 @@
 ghost use Rattle.std.specs.Prelude.{◌≡◌, ◌^◌, ◌<◌};
 ghost use Rattle.hv_store.specs.Space.{OnlyReads};
 ghost use Rattle.hv_sv32.specs.Stop.{FitsMachine, walked};
-ghost use Rattle.hv_sv32.specs.Walk.{access_fault_of, at_first, at_second, is_bare, page_fault_of, placed, through_first, through_second, walk_of};
+ghost use Rattle.hv_sv32.specs.Walk.{access_fault_of, at_first, at_second, is_bare, page_fault_of, located, through_first, through_second, walk_of};
 
 mod entry;
 #[cfg(test)]
@@ -141,7 +141,7 @@ fn second_entry<S: Space>(
 #[inline(always)]
 fn place<S: Space>(space: &S, page: u32, address: u32, access: Access) -> Result<u64, Stop>
     requires { page < 2 ^ 22 }
-    ensures walks { walked result ≡ placed (S.slots space.now) page address access }
+    ensures walks { walked result ≡ located (S.slots space.now) page address access }
     ensures fits { FitsMachine (S.slots space.now) (S.depth space.now) result }
 {
     if page < space.pages() {

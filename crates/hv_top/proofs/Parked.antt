@@ -8,31 +8,31 @@ use Rattle.hv_store.specs.declared.access.Slot.{Slot}
 use Rattle.hv_store.specs.declared.access.Way.{Way}
 use Rattle.hv_store.specs.declared.access.Way.TheVariants.{Open, Shut}
 use Rattle.hv_store.specs.Access.{identity}
-use Rattle.hv_block.specs.Block.{Held, block_of}
+use Rattle.hv_block.specs.Block.{Contents, block_of}
 use Rattle.hv_map.specs.Item.{Item}
 use Rattle.hv_map.specs.Compose.{compose}
-use Rattle.hv_map.specs.Chain.{along, map_along, child_held, child_through, child_at, child_of, option_cons, machines, pin_of}
+use Rattle.hv_map.specs.Chain.{along, map_along, child_with, child_through, child_at, child_of, option_cons, machines, pin_of}
 use Rattle.hv_map.proofs.Slots.{length-composed}
 use Rattle.hv_nest.specs.Watched.{last_block}
 
 -- page g has a well-formed block, of a machine with so many pages
 pub record HasBlock (S : List ℕ) (g pages : ℕ) : Type 0 where
-  pub held : Held
-  pub block : block_of S g ≡ Some held
-  pub size : held.pages ≡ pages
+  pub contents : Contents
+  pub block : block_of S g ≡ Some contents
+  pub size : contents.pages ≡ pages
 
 -- a child's
 child_block : (S : List ℕ) (F : List Slot) (s : ℕ) (x : Item) → child_of S F s ≡ Some x → HasBlock S x.block x.pages
 child_block S F s x e = at (slice_get F s) e
   where
-    held : (g : ℕ) (o : Option Held) → block_of S g ≡ o → child_held s g o ≡ Some x → HasBlock S x.block x.pages
-    held g None b h = absurd (cc)
-    held g (Some k) b h =
+    contents : (g : ℕ) (o : Option Contents) → block_of S g ≡ o → child_with s g o ≡ Some x → HasBlock S x.block x.pages
+    contents g None b h = absurd (cc)
+    contents g (Some k) b h =
         let same = same_Some record { syllable = s; block = g; pages = k.pages; table = k.table; version = k.version } x h in
-        subst (λ (y : Item). HasBlock S y.block y.pages) same record { held = k; block = b; size = refl }
+        subst (λ (y : Item). HasBlock S y.block y.pages) same record { contents = k; block = b; size = refl }
 
     through : (way : Way) → child_through S s way ≡ Some x → HasBlock S x.block x.pages
-    through (Open g) h = held g (block_of S g) refl h
+    through (Open g) h = contents g (block_of S g) refl h
     through (Shut l c p w) h = absurd (cc)
 
     at : (o : Option Slot) → child_at S s o ≡ Some x → HasBlock S x.block x.pages

@@ -14,7 +14,7 @@ use Rattle.hv_whole.proofs.Roots.{run_long}
 use Rattle.hv_run.proofs.Runs.{run_harts}
 use Rattle.hv_run.specs.Record.{WatchOf, watch_record, watch_records, record_of}
 use Rattle.hv_run.specs.Stands.{EachWatch, IsPinned, IsWatchable, CanWatch}
-use Rattle.hv_report.specs.Report.{IsThere, AreThere}
+use Rattle.hv_report.specs.Report.{IsInState, AreInState}
 
 -- the block of the last machine lies in the storage
 block_of_last : (P : ℕ → Type 0) (items : List Item) → ((i : ℕ) (x : Item) → slice_get items i ≡ Some x → P x.block) → IfSome (last_block items) P
@@ -29,20 +29,20 @@ module _ (start : State) (moves : List Move) where
   pages : page_count (last_of start moves).storage ≡ page_count start.storage
   pages = ap (λ (n : ℕ). n / 1024) (run_long start moves)
 
-  there_one : (w : WatchOf) → IsWatchable start w → All (IsThere (last_of start moves)) (watch_records w start moves (pin_of start.storage w.path))
+  there_one : (w : WatchOf) → IsWatchable start w → All (IsInState (last_of start moves)) (watch_records w start moves (pin_of start.storage w.path))
   there_one w can = at (pin_of start.storage w.path) refl can.machine
     where
-      at : (o : Option (List Item)) → pin_of start.storage w.path ≡ o → IsPinned start.storage o → All (IsThere (last_of start moves)) (watch_records w start moves o)
+      at : (o : Option (List Item)) → pin_of start.storage w.path ≡ o → IsPinned start.storage o → All (IsInState (last_of start moves)) (watch_records w start moves o)
       at None is h = absurd h
       at (Some items) is h =
-          All-cons (IsThere (last_of start moves)) (watch_record w start items (tally_of w.hart w.path items (foot start.storage items) start moves no_tally)) []
+          All-cons (IsInState (last_of start moves)) (watch_record w start items (tally_of w.hart w.path items (foot start.storage items) start moves no_tally)) []
           (omega (arith, can.hart, run_harts start moves), subst (λ (n : ℕ). IfSome (last_block items) (λ g. g < n)) (sym pages) (block_inside start.storage w.path items is))
-          (All-nil (IsThere (last_of start moves)))
+          (All-nil (IsInState (last_of start moves)))
 
-  there_each : (ws : List WatchOf) → EachWatch (IsWatchable start) ws → All (IsThere (last_of start moves)) (flat_map (λ (w : WatchOf). watch_records w start moves (pin_of start.storage w.path)) ws)
-  there_each [] can = All-nil (IsThere (last_of start moves))
-  there_each (w ∷ ws) can = All-append (IsThere (last_of start moves)) (watch_records w start moves (pin_of start.storage w.path)) (flat_map (λ (w : WatchOf). watch_records w start moves (pin_of start.storage w.path)) ws) (there_one w can.0) (there_each ws can.1)
+  there_each : (ws : List WatchOf) → EachWatch (IsWatchable start) ws → All (IsInState (last_of start moves)) (flat_map (λ (w : WatchOf). watch_records w start moves (pin_of start.storage w.path)) ws)
+  there_each [] can = All-nil (IsInState (last_of start moves))
+  there_each (w ∷ ws) can = All-append (IsInState (last_of start moves)) (watch_records w start moves (pin_of start.storage w.path)) (flat_map (λ (w : WatchOf). watch_records w start moves (pin_of start.storage w.path)) ws) (there_one w can.0) (there_each ws can.1)
 
-  pub there : (ws : List WatchOf) → CanWatch start ws → AreThere (last_of start moves) (record_of start moves ws).watches
+  pub there : (ws : List WatchOf) → CanWatch start ws → AreInState (last_of start moves) (record_of start moves ws).watches
   unfolding record_of
   there ws can = there_each ws can

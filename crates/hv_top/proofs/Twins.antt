@@ -6,7 +6,7 @@ use Rattle.hv_word.specs.Storage.{page_count}
 use Rattle.std.proofs.lemmas.Option.{slice_get_within, get_or_from_slice_get}
 use Rattle.hv_cpu.specs.Regs.{Regs}
 use Rattle.hv_store.specs.declared.access.Slot.{Slot}
-use Rattle.hv_block.specs.Block.{Held, block_of}
+use Rattle.hv_block.specs.Block.{Contents, block_of}
 use Rattle.hv_map.specs.Item.{Item}
 use Rattle.hv_map.specs.Chain.{map_along, map_of, pin_of}
 use Rattle.hv_map.specs.Seen.{seen}
@@ -35,9 +35,9 @@ parked_inside S path g block h e = at (pin_of S path) refl h
     at None is m = absurd m
     at (Some items) is m = subst (λ (o : Option ℕ). IfSome o (λ k. k < page_count S)) (sym (e ∙ m.0)) (block_inside S path items is)
 
-some_block : (o : Option Held) (held : Held) → o ≡ Some held → IsSome o
-some_block None held e = cc
-some_block (Some h) held e = refl
+some_block : (o : Option Contents) (contents : Contents) → o ≡ Some contents → IsSome o
+some_block None contents e = cc
+some_block (Some h) contents e = refl
 
 pub parked_there : (S path : List ℕ) (g : ℕ) (block : Option ℕ) → IsMachine S block (pin_of S path) → Some g ≡ block → IsSome (block_of S g)
 parked_there S path g block h e = at (pin_of S path) refl h
@@ -46,16 +46,16 @@ parked_there S path g block h e = at (pin_of S path) refl h
     at None is m = absurd m
     at (Some items) is m =
         let b = pinned_parked S path items g is (sym (e ∙ m.0)) in
-        some_block (block_of S g) b.held b.block
+        some_block (block_of S g) b.contents b.block
 
-pub parked_next : (S path : List ℕ) (g : ℕ) (block : Option ℕ) (r : Regs) → IsMachine S block (pin_of S path) → Some g ≡ block → IfSome (block_of S g) (λ held. r.next < held.pages) → IfSome (map_of S path) (λ F. NextBelow (length F) r)
+pub parked_next : (S path : List ℕ) (g : ℕ) (block : Option ℕ) (r : Regs) → IsMachine S block (pin_of S path) → Some g ≡ block → IfSome (block_of S g) (λ contents. r.next < contents.pages) → IfSome (map_of S path) (λ F. NextBelow (length F) r)
 parked_next S path g block r h e below = at (pin_of S path) refl h
   where
     at : (o : Option (List Item)) → pin_of S path ≡ o → IsMachine S block o → IfSome (option_map (map_along S) o) (λ F. NextBelow (length F) r)
     at None is m = tt
     at (Some items) is m = λ some.
         let b = pinned_parked S path items g is (sym (e ∙ m.0)) in
-        let less : r.next < (b.held).pages = subst (λ (o : Option Held). IfSome o (λ held. r.next < held.pages)) b.block below in
+        let less : r.next < (b.contents).pages = subst (λ (o : Option Contents). IfSome o (λ contents. r.next < contents.pages)) b.block below in
         subst (λ (n : ℕ). r.next < n) b.size less
 
 -- a hart that runs no machine

@@ -5,7 +5,7 @@ ghost use Rattle.hv_job.specs.IsJob.{IsJob};
 ghost use Rattle.hv_load.specs.Build.{build_of};
 ghost use Rattle.hv_load.specs.Ready.{IsReady};
 ghost use Rattle.hv_nest.specs.Move.{last_of};
-ghost use Rattle.hv_report.specs.Report.{AreThere};
+ghost use Rattle.hv_report.specs.Report.{AreInState};
 ghost use Rattle.hv_run.specs.Record.{schedule};
 ghost use Rattle.hv_top.specs.Check.{IsRow};
 ghost use Rattle.hv_top.specs.Run.{PlayIsPromised, state_of, record_on};
@@ -32,7 +32,7 @@ pub fn play_out(alloc: Global, job: &Job, start: Start) -> Result<Ending, AllocE
     ensures state { IfOk result (λ end. end.plain ≡ last_of (state_of start) (schedule job.now.recording)) }
     ensures plan { IfOk result (λ end. end.plan ≡ start.plan) }
     ensures told { IfOk result (λ end. end.record ≡ record_on (schedule job.now.recording) start) }
-    ensures there { IfOk result (λ end. AreThere end.plain (end.record).watches) }
+    ensures there { IfOk result (λ end. AreInState end.plain (end.record).watches) }
     ensures rows { IfOk result (λ end. All (IsRow (state_of start)) (end.record).watches) }
     ensures promised { OnOk result (PlayIsPromised (schedule job.now.recording) start) }
 {

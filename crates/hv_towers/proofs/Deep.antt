@@ -15,7 +15,7 @@ use Rattle.hv_store.specs.declared.access.Way.{Way}
 use Rattle.hv_store.specs.declared.access.Way.TheVariants.{Open, Shut}
 use Rattle.hv_store.specs.Access.{way_for, refused}
 use Rattle.hv_exec.specs.Act.{Acted, Done, Refused, act_of}
-use Rattle.hv_block.specs.Block.{Held, block_of, with_fault, access_word}
+use Rattle.hv_block.specs.Block.{Contents, block_of, with_fault, access_word}
 use Rattle.hv_map.specs.Compose.{compose}
 use Rattle.hv_map.proofs.Handed.{composed_level}
 use Rattle.hv_nest.specs.Asks.{Ask, asks, refusal_through, refusal_at, refusal_of, first_refused}
@@ -99,11 +99,11 @@ module _ (k : ℕ) where
   PassesAll deeper = (S : List ℕ) (F : List Slot) (j hart : ℕ) (r : Regs) → k ≤ j → ShutFrom k F → PassesDeep k (deeper S F j hart r)
 
   module _ (deeper : Machine) (deep : PassesAll deeper) (S : List ℕ) (F : List Slot) (j : ℕ) (r : Regs) (low : k ≤ j) (from : ShutFrom k F) where
-    child_deep : (g : ℕ) (o : Option Held) → PassesDeep k (child_step deeper S F j r g o)
+    child_deep : (g : ℕ) (o : Option Contents) → PassesDeep k (child_step deeper S F j r g o)
     child_deep g None = told_deep S j r g (malformed j r.next) (inl low)
-    child_deep g (Some held) =
-        back_deep S j r g (deeper S (compose S F j held.pages held.table held.version) (j + 1) 0 held.regs)
-        (deep S (compose S F j held.pages held.table held.version) (j + 1) 0 held.regs (omega (arith, low)) (composed_from k S F j held.pages held.table held.version low from))
+    child_deep g (Some contents) =
+        back_deep S j r g (deeper S (compose S F j contents.pages contents.table contents.version) (j + 1) 0 contents.regs)
+        (deep S (compose S F j contents.pages contents.table contents.version) (j + 1) 0 contents.regs (omega (arith, low)) (composed_from k S F j contents.pages contents.table contents.version low from))
 
     way_deep : (way : Way) → ((l c p : ℕ) (w : Option ℕ) → way ≡ Shut l c p w → k ≤ l) → PassesDeep k (child_through deeper S F j r way)
     way_deep (Open g) h = child_deep g (block_of S g)

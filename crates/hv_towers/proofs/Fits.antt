@@ -34,7 +34,7 @@ use Rattle.hv_exec.specs.Memory.{bytes_of, lane_at, loading, storing}
 use Rattle.hv_exec.specs.System.{new_value, stored_csr, answered_csr, read_csr, csr_row, returned, entering}
 use Rattle.hv_exec.specs.Do.{row_answer, do_of}
 use Rattle.hv_exec.specs.Act.{Acted, Done, Refused, trapped, loaded, load_at, stored, store_at, entered, enter_page, enter_at, carried_out, decoded, fetched, fetch_at, act_of}
-use Rattle.hv_block.specs.Block.{Held, block_of, with_fault, access_word}
+use Rattle.hv_block.specs.Block.{Contents, block_of, with_fault, access_word}
 use Rattle.hv_limits.specs.Limits.{depth_limit}
 use Rattle.hv_map.specs.Compose.{compose}
 use Rattle.hv_nest.specs.Step.{Stepped, Worked, Recalled, Faulted, Barred, Machine, idle, interrupt_of, act_step, tell_of, put_back, malformed, child_step, child_through, child_at, next_step, step_on, step_of, host_step_of}
@@ -547,9 +547,9 @@ module _ (n : ℕ) (r : Regs) (f : Fit n r) where
   back_fits S j g (Barred e) = told_fits S j g e
 
   module _ (deeper : Machine) (S : List ℕ) (F : List Slot) (j : ℕ) where
-    child_fits : (g : ℕ) (o : Option Held) → StepFits n (child_step deeper S F j r g o)
+    child_fits : (g : ℕ) (o : Option Contents) → StepFits n (child_step deeper S F j r g o)
     child_fits g None = told_fits S j g (malformed j r.next)
-    child_fits g (Some held) = back_fits S j g (deeper S (compose S F j held.pages held.table held.version) (j + 1) 0 held.regs)
+    child_fits g (Some contents) = back_fits S j g (deeper S (compose S F j contents.pages contents.table contents.version) (j + 1) 0 contents.regs)
 
     through_fits : (way : Way) → StepFits n (child_through deeper S F j r way)
     through_fits (Open g) = child_fits g (block_of S g)

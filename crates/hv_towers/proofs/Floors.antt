@@ -4,11 +4,11 @@ use Rattle.std.specs.Prelude.{◌==◌, ◌&&◌, ◌||◌, nat_lt, nat_le}
 use Rattle.std.proofs.lemmas.Bool.{lt-ltb, le-leb}
 use Rattle.hv_word.specs.Storage.{page_count, word_at}
 use Rattle.hv_store.specs.declared.access.Slot.{Slot}
-use Rattle.hv_block.specs.Block.{regs_at, fits_hart, fits_pages, held_at, block_of}
+use Rattle.hv_block.specs.Block.{regs_at, fits_hart, fits_pages, contents_at, block_of}
 use Rattle.hv_map.specs.Item.{Item}
 use Rattle.hv_map.specs.Apart.{table_pages}
 use Rattle.hv_map.specs.Compose.{compose}
-use Rattle.hv_map.specs.Chain.{along, child_held, child_at, child_next}
+use Rattle.hv_map.specs.Chain.{along, child_with, child_at, child_next}
 use Rattle.hv_towers.specs.Laid.{from_base, child_base, HasPass}
 use Rattle.hv_towers.proofs.Bases.{base_slot}
 
@@ -60,16 +60,16 @@ module _ (S : List ℕ) (j base n : ℕ) (x : Item) (floor : Floor S j base n x)
       ∙ ap (λ (k : ℕ). nat_lt 0 x.pages && nat_le x.pages 1048576 && nat_lt x.table 1048576 && nat_lt (word_at S x.block 64) x.pages && ((k == 0) || (k == 2))) (floor.version ∙ floor.plain)
       ∙ (λ i. ((lt-ltb 0 x.pages floor.some) i) && ((le-leb x.pages 1048576 floor.few) i) && ((lt-ltb x.table 1048576 floor.early) i) && ((lt-ltb (word_at S x.block 64) x.pages next) i) && true)
 
-  holds : fits_hart (regs_at S x.block) ≡ true → word_at S x.block 64 < x.pages → block_of S x.block ≡ Some (held_at S x.block)
+  holds : fits_hart (regs_at S x.block) ≡ true → word_at S x.block 64 < x.pages → block_of S x.block ≡ Some (contents_at S x.block)
   holds fits next =
-      ap (λ (b : Bool). cond (b && fits_pages S x.block) (Some (held_at S x.block)) None) fits
-      ∙ ap (λ (b : Bool). cond b (Some (held_at S x.block)) None) (sized next)
+      ap (λ (b : Bool). cond (b && fits_pages S x.block) (Some (contents_at S x.block)) None) fits
+      ∙ ap (λ (b : Bool). cond b (Some (contents_at S x.block)) None) (sized next)
 
   pub child_there : fits_hart (regs_at S x.block) ≡ true → word_at S x.block 64 < x.pages → child_next S (from_base base n) 1 ≡ Some x
   child_there fits next =
       ap (child_at S 1) (base_slot base n 1 two)
-      ∙ ap (λ (g : ℕ). child_held 1 g (block_of S g)) (sym floor.block)
-      ∙ ap (child_held 1 x.block) (holds fits next)
+      ∙ ap (λ (g : ℕ). child_with 1 g (block_of S g)) (sym floor.block)
+      ∙ ap (child_with 1 x.block) (holds fits next)
       ∙ (λ i. Some record {
         syllable = (sym floor.syllable) i;
         block = x.block;

@@ -4,11 +4,11 @@ use Rattle.std.proofs.lemmas.Option.{same_Some}
 use Rattle.hv_store.specs.declared.access.Slot.{Slot}
 use Rattle.hv_store.specs.declared.access.Way.{Way}
 use Rattle.hv_store.specs.declared.access.Way.TheVariants.{Open, Shut}
-use Rattle.hv_block.specs.Block.{Held, block_of}
+use Rattle.hv_block.specs.Block.{Contents, block_of}
 use Rattle.hv_block.proofs.Blocks.{block_sized}
 use Rattle.hv_map.specs.Item.{Item}
 use Rattle.hv_map.specs.Compose.{compose}
-use Rattle.hv_map.specs.Chain.{child_held, child_through, child_at, machines}
+use Rattle.hv_map.specs.Chain.{child_with, child_through, child_at, machines}
 use Rattle.hv_map.proofs.Assoc.{begins_with}
 
 abbrev pub EachFew : List Item → Type 0
@@ -16,14 +16,14 @@ EachFew [] = Unit {0}
 EachFew (x ∷ xs) = (x.pages ≤ 1048576) × EachFew xs
 
 -- a child has as many pages as a block can say
-held_sized : (S : List ℕ) (g s : ℕ) (x : Item) (o : Option Held) → block_of S g ≡ o → child_held s g o ≡ Some x → x.pages ≤ 1048576
-held_sized S g s x None is e = absurd (let f : None ≡ Some x = e in cc)
-held_sized S g s x (Some held) is e =
-    let item : record { syllable = s; block = g; pages = held.pages; table = held.table; version = held.version } ≡ x = same_Some record { syllable = s; block = g; pages = held.pages; table = held.table; version = held.version } x e in
-    subst (λ (y : Item). y.pages ≤ 1048576) item (block_sized S g held is).pages
+contents_sized : (S : List ℕ) (g s : ℕ) (x : Item) (o : Option Contents) → block_of S g ≡ o → child_with s g o ≡ Some x → x.pages ≤ 1048576
+contents_sized S g s x None is e = absurd (let f : None ≡ Some x = e in cc)
+contents_sized S g s x (Some contents) is e =
+    let item : record { syllable = s; block = g; pages = contents.pages; table = contents.table; version = contents.version } ≡ x = same_Some record { syllable = s; block = g; pages = contents.pages; table = contents.table; version = contents.version } x e in
+    subst (λ (y : Item). y.pages ≤ 1048576) item (block_sized S g contents is).pages
 
 through_sized : (S : List ℕ) (s : ℕ) (x : Item) (way : Way) → child_through S s way ≡ Some x → x.pages ≤ 1048576
-through_sized S s x (Open g) e = held_sized S g s x (block_of S g) refl e
+through_sized S s x (Open g) e = contents_sized S g s x (block_of S g) refl e
 through_sized S s x (Shut l c p w) e = absurd (let f : None ≡ Some x = e in cc)
 
 child_sized : (S : List ℕ) (s : ℕ) (x : Item) (o : Option Slot) → child_at S s o ≡ Some x → x.pages ≤ 1048576

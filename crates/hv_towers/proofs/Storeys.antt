@@ -10,11 +10,11 @@ use Rattle.hv_cpu.specs.Regs.{Regs, reset_regs}
 use Rattle.hv_store.specs.declared.access.Slot.{Slot}
 use Rattle.hv_store.specs.declared.access.Way.TheVariants.{Open, Shut}
 use Rattle.hv_store.specs.Access.{identity, open_at}
-use Rattle.hv_block.specs.Block.{regs_at, fits_hart, fits_pages, held_at, block_of}
+use Rattle.hv_block.specs.Block.{regs_at, fits_hart, fits_pages, contents_at, block_of}
 use Rattle.hv_map.specs.Item.{Item}
 use Rattle.hv_map.specs.Apart.{table_pages}
-use Rattle.hv_map.specs.Compose.{Named, Stopped, present, look, granted, placed, slot_of, reading, compose, compose_slot}
-use Rattle.hv_map.specs.Chain.{along, map_along, child_at, child_held, child_of, option_cons, machines, pin_of, map_of}
+use Rattle.hv_map.specs.Compose.{Named, Stopped, present, look, granted, slot_through, slot_of, reading, compose, compose_slot}
+use Rattle.hv_map.specs.Chain.{along, map_along, child_at, child_with, child_of, option_cons, machines, pin_of, map_of}
 use Rattle.hv_map.proofs.Agree.{map_range_alike}
 use Rattle.hv_load.specs.Making.{block_word, entry_word, table_word}
 use Rattle.hv_towers.specs.Laid.{from_base, child_base, HasPass, LaidAt, LaidFrom}
@@ -104,8 +104,8 @@ module _ (S : List ℕ) (j base n m : ℕ) (few : n ≤ pages_limit) (storey : S
       let h : 2 + table_pages m + m ≤ n = inside in
       let sum : base + (2 + table_pages m + i) ≡ child_base base m + i = omega arith in
       ap (slot_of (from_base base n) j 0 i) (looked i lt)
-      ∙ ap (λ (p : ℕ). placed j 0 i (entry i) (slice_get (from_base base n) p)) (named_page i lt)
-      ∙ ap (placed j 0 i (entry i)) (base_slot base n (2 + table_pages m + i) (omega (arith, h, lt)))
+      ∙ ap (λ (p : ℕ). slot_through j 0 i (entry i) (slice_get (from_base base n) p)) (named_page i lt)
+      ∙ ap (slot_through j 0 i (entry i)) (base_slot base n (2 + table_pages m + i) (omega (arith, h, lt)))
       ∙ granted_open j i (entry i) (base + (2 + table_pages m + i)) (odd (2 + table_pages m + i))
       ∙ ap open_at sum
     where
@@ -178,16 +178,16 @@ module _ (S : List ℕ) (j base n m : ℕ) (few : n ≤ pages_limit) (storey : S
       (λ i. nat_lt 0 ((storey.block 65 (lit< tt)) i) && nat_le ((storey.block 65 (lit< tt)) i) 1048576 && nat_lt ((storey.block 66 (lit< tt)) i) 1048576 && nat_lt ((storey.block 64 (lit< tt)) i) ((storey.block 65 (lit< tt)) i) && (((storey.block 67 (lit< tt)) i == 0) || ((storey.block 67 (lit< tt)) i == 2)))
       ∙ (λ i. ((lt-ltb 0 m positive) i) && ((le-leb m 1048576 (omega (arith, h, few))) i) && true && ((lt-ltb 0 m positive) i) && true)
 
-  holds : block_of S (base + 1) ≡ Some (held_at S (base + 1))
+  holds : block_of S (base + 1) ≡ Some (contents_at S (base + 1))
   holds =
-      ap (λ (r : Regs). cond (fits_hart r && fits_pages S (base + 1)) (Some (held_at S (base + 1))) None) regs_reset
-      ∙ ap (λ (b : Bool). cond b (Some (held_at S (base + 1))) None) sized
+      ap (λ (r : Regs). cond (fits_hart r && fits_pages S (base + 1)) (Some (contents_at S (base + 1))) None) regs_reset
+      ∙ ap (λ (b : Bool). cond b (Some (contents_at S (base + 1))) None) sized
 
   pub child_is : child_of S (from_base base n) 1 ≡ Some (item_of base m)
   child_is =
       let h : 2 + table_pages m + m ≤ n = inside in
       ap (child_at S 1) (base_slot base n 1 (omega (arith, h)))
-      ∙ ap (child_held 1 (base + 1)) holds
+      ∙ ap (child_with 1 (base + 1)) holds
       ∙ (λ i. Some record { syllable = 1; block = base + 1; pages = (storey.block 65 (lit< tt)) i; table = (storey.block 66 (lit< tt)) i; version = (storey.block 67 (lit< tt)) i })
 
   pub laid_at : LaidAt S j base n (item_of base m)

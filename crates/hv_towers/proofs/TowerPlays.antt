@@ -23,7 +23,7 @@ use Rattle.hv_whole.proofs.Members.{parted}
 use Rattle.hv_whole.proofs.WholeRuns.{whole_runs}
 use Rattle.hv_run.specs.Record.{no_count}
 use Rattle.hv_towers.specs.Laid.{child_base, LaidFrom, Laid}
-use Rattle.hv_towers.specs.Tower.{steps, start_of, tally_after, TowerPlayed, TowerPlayLaw}
+use Rattle.hv_towers.specs.Tower.{steps, start_of, tally_of_steps, TowerPlayed, TowerPlayLaw}
 use Rattle.hv_towers.proofs.Phases.{Fresh, waits, first_wait, InPhases}
 use Rattle.hv_towers.proofs.Bases.{base_zero}
 use Rattle.hv_towers.proofs.Fits.{Fit}
@@ -126,9 +126,9 @@ module _ (D N : ℕ) (S T : List ℕ) (x : Item) (xs : List Item) (laid : Laid D
       (subst (λ (p : List ℕ). Plays p (x ∷ xs) (foot S (x ∷ xs)) k (start_of S) (waits (replicate (length (x ∷ xs)) Fresh)) 0 no_count) on_path
       (plays S x xs ground k S reset_regs (replicate (length (x ∷ xs)) Fresh) 0 no_count stands))
 
-  alike : (k m : ℕ) → tally_after D S (x ∷ xs) k ≡ quiet m → Alike 0 (x ∷ xs) (map_along S (x ∷ xs)) (last_of (start_of S) (steps k)) (bare_of T reset_regs [] m)
+  alike : (k m : ℕ) → tally_of_steps D S (x ∷ xs) k ≡ quiet m → Alike 0 (x ∷ xs) (map_along S (x ∷ xs)) (last_of (start_of S) (steps k)) (bare_of T reset_regs [] m)
   alike k m e =
-      let whole = whole_runs 0 (replicate D 1) (x ∷ xs) (start_of S) (steps k) (tally_after D S (x ∷ xs) k) (omega arith) (λ z. refl) (all_masked k) short laid.pins laid.apart refl (ap (λ (t : Tally). t.touched) e) in
+      let whole = whole_runs 0 (replicate D 1) (x ∷ xs) (start_of S) (steps k) (tally_of_steps D S (x ∷ xs) k) (omega arith) (λ z. refl) (all_masked k) short laid.pins laid.apart refl (ap (λ (t : Tally). t.touched) e) in
       subst (Alike 0 (x ∷ xs) (map_along S (x ∷ xs)) (last_of (start_of S) (steps k)))
       (λ i. bare_of (laid.sees i) (own_reset i) ((e i).changes) ((e i).count)) whole
 

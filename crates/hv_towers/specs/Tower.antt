@@ -23,8 +23,8 @@ abbrev pub start_of : List ℕ → State
 start_of S = alone S reset_regs
 
 -- the tally of the watch of the machine at the end after n steps
-abbrev pub tally_after : ℕ → List ℕ → List Item → ℕ → Tally
-tally_after D S items n = tally_of 0 (replicate D 1) items (foot S items) (start_of S) (steps n) no_tally
+abbrev pub tally_of_steps : ℕ → List ℕ → List Item → ℕ → Tally
+tally_of_steps D S items n = tally_of 0 (replicate D 1) items (foot S items) (start_of S) (steps n) no_tally
 
 -- whether a machine was asked to run another that is too deep, in n steps
 abbrev pub is_too_deep : List ℕ → ℕ → Bool
@@ -34,12 +34,12 @@ pub record TowerPlayed (D : ℕ) (S T : List ℕ) (items : List Item) (m : ℕ) 
   pub one : is_one S items ≡ true
   pub apart : is_apart S items ≡ true
   -- the first 3 D steps are the monitors'
-  pub monitors : (n : ℕ) → n ≤ 3 * D → (tally_after D S items n).count ≡ 0
-  pub untouched : (tally_after D S items (3 * D + m)).touched ≡ false
-  pub unlined : (tally_after D S items (3 * D + m)).changes ≡ []
+  pub monitors : (n : ℕ) → n ≤ 3 * D → (tally_of_steps D S items n).count ≡ 0
+  pub untouched : (tally_of_steps D S items (3 * D + m)).touched ≡ false
+  pub unlined : (tally_of_steps D S items (3 * D + m)).changes ≡ []
   -- the rest are those of the machine at the end
   pub runs : (is_too_deep S (3 * D + m) ≡ true)
-      ⊎ (((tally_after D S items (3 * D + m)).count ≡ m)
+      ⊎ (((tally_of_steps D S items (3 * D + m)).count ≡ m)
       × Alike 0 items (map_along S items) (last_of (start_of S) (steps (3 * D + m))) (bare_of T reset_regs [] m))
 
 abbrev pub TowerPlayLaw : Type 0

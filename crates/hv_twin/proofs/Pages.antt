@@ -9,26 +9,26 @@ use Rattle.hv_store.specs.declared.access.Way.{Way}
 use Rattle.hv_store.specs.declared.access.Way.TheVariants.{Open, Shut}
 use Rattle.hv_store.specs.Access.{identity}
 use Rattle.hv_store.proofs.Identity.{length-identity}
-use Rattle.hv_block.specs.Block.{Held, block_of}
+use Rattle.hv_block.specs.Block.{Contents, block_of}
 use Rattle.hv_block.proofs.Blocks.{block_sized}
 use Rattle.hv_map.specs.Item.{Item}
 use Rattle.hv_map.specs.Compose.{compose}
-use Rattle.hv_map.specs.Chain.{along, map_along, child_held, child_through, child_at, child_of, option_cons, machines, pin_of}
+use Rattle.hv_map.specs.Chain.{along, map_along, child_with, child_through, child_at, child_of, option_cons, machines, pin_of}
 use Rattle.hv_map.proofs.Slots.{length-composed}
 
 -- a child has one, since its block is well formed
 child_has_pages : (S : List ℕ) (F : List Slot) (s : ℕ) (x : Item) → child_of S F s ≡ Some x → 1 ≤ x.pages
 child_has_pages S F s x e = at (slice_get F s) e
   where
-    held : (g : ℕ) (o : Option Held) → block_of S g ≡ o → child_held s g o ≡ Some x → 1 ≤ x.pages
-    held g None b h = absurd (cc)
-    held g (Some k) b h =
+    contents : (g : ℕ) (o : Option Contents) → block_of S g ≡ o → child_with s g o ≡ Some x → 1 ≤ x.pages
+    contents g None b h = absurd (cc)
+    contents g (Some k) b h =
         let same : k.pages ≡ x.pages = ap (λ (y : Item). y.pages) (same_Some _ x h) in
         let sized = block_sized S g k b in
         subst (λ n. 1 ≤ n) same sized.some
 
     through : (way : Way) → child_through S s way ≡ Some x → 1 ≤ x.pages
-    through (Open g) h = held g (block_of S g) refl h
+    through (Open g) h = contents g (block_of S g) refl h
     through (Shut l c p w) h = absurd (cc)
 
     at : (o : Option Slot) → child_at S s o ≡ Some x → 1 ≤ x.pages

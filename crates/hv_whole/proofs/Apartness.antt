@@ -10,11 +10,11 @@ use Rattle.hv_store.specs.declared.access.Slot.{Slot}
 use Rattle.hv_store.specs.declared.access.Way.{Way}
 use Rattle.hv_store.specs.declared.access.Way.TheVariants.{Open, Shut}
 use Rattle.hv_store.specs.Access.{identity}
-use Rattle.hv_block.specs.Block.{Held, block_of, IsOther}
+use Rattle.hv_block.specs.Block.{Contents, block_of, IsOther}
 use Rattle.hv_block.proofs.Blocks.{block_sized}
 use Rattle.hv_map.specs.Item.{Item}
 use Rattle.hv_map.specs.Compose.{Named, Stopped, look, page_named, table_of, reading, compose}
-use Rattle.hv_map.specs.Chain.{child_held, child_through, child_at, machines, map_along, pin_of}
+use Rattle.hv_map.specs.Chain.{child_with, child_through, child_at, machines, map_along, pin_of}
 use Rattle.hv_limits.specs.Limits.{depth_limit}
 use Rattle.hv_map.specs.Apart.{are_distinct, open_page, open_pages, table_pages, table_open, tables_of, directory_of, tables_along, blocks_of, is_apart}
 use Rattle.hv_map.specs.Carried.{Opens}
@@ -115,14 +115,14 @@ module _ (P : ℕ → ℕ → Type 0) where
       )
 
 -- a child has as many pages as a block can say
-held_sized : (S : List ℕ) (g s : ℕ) (x : Item) (o : Option Held) → block_of S g ≡ o → child_held s g o ≡ Some x → x.pages ≤ 1048576
-held_sized S g s x None is e = absurd (let f : None ≡ Some x = e in cc)
-held_sized S g s x (Some held) is e =
-    let item : record { syllable = s; block = g; pages = held.pages; table = held.table; version = held.version } ≡ x = same_Some record { syllable = s; block = g; pages = held.pages; table = held.table; version = held.version } x e in
-    subst (λ (y : Item). y.pages ≤ 1048576) item (block_sized S g held is).pages
+contents_sized : (S : List ℕ) (g s : ℕ) (x : Item) (o : Option Contents) → block_of S g ≡ o → child_with s g o ≡ Some x → x.pages ≤ 1048576
+contents_sized S g s x None is e = absurd (let f : None ≡ Some x = e in cc)
+contents_sized S g s x (Some contents) is e =
+    let item : record { syllable = s; block = g; pages = contents.pages; table = contents.table; version = contents.version } ≡ x = same_Some record { syllable = s; block = g; pages = contents.pages; table = contents.table; version = contents.version } x e in
+    subst (λ (y : Item). y.pages ≤ 1048576) item (block_sized S g contents is).pages
 
 through_sized : (S : List ℕ) (s : ℕ) (x : Item) (way : Way) → child_through S s way ≡ Some x → x.pages ≤ 1048576
-through_sized S s x (Open g) e = held_sized S g s x (block_of S g) refl e
+through_sized S s x (Open g) e = contents_sized S g s x (block_of S g) refl e
 through_sized S s x (Shut l c p w) e = absurd (let f : None ≡ Some x = e in cc)
 
 child_sized : (S : List ℕ) (s : ℕ) (x : Item) (o : Option Slot) → child_at S s o ≡ Some x → x.pages ≤ 1048576

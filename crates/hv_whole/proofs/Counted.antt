@@ -16,7 +16,7 @@ use Rattle.hv_nest.specs.Step.{Stepped, Worked, Recalled, Faulted, Barred, step_
 use Rattle.hv_nest.specs.Move.{StepOf, moved_by, moved_at, running_at, state_after}
 use Rattle.hv_nest.specs.Watched.{begins, is_outside, is_counted}
 use Rattle.hv_nest.specs.Bare.{alone}
-use Rattle.hv_nest.specs.Simulation.{StepLike, refused_further_out, both_work, both_recall, both_fault, both_refused, StillSees, SimulationLaw, raised}
+use Rattle.hv_nest.specs.Simulation.{StepLike, refused_further_out, both_work, both_recall, both_fault, both_refused, StillSees, SimulationLaw, deepened}
 use Rattle.hv_nest.specs.Routing.{regs_along, hart_along}
 use Rattle.hv_whole.specs.Whole.{hart_regs}
 use Rattle.hv_whole.specs.Linked.{Alone, Linked}
@@ -65,13 +65,13 @@ module _ (A : List ℕ) (items : List Item) (F : List Slot) (apart : Alone A ite
       by (inl f) = low_fault st h k R (subst (LowFault k) (sym is) (subst (λ (l : ℕ). LowFault l (lifted st.storage 0 items r (Barred e))) at f)) counted
       by (inr (same, inl f)) = omega arith
       by (inr (same, inr f)) = omega (arith, at)
-  outcome k level R X Y is (both_refused e) counted = by (lifted_barred st.storage 0 items r (raised k e))
+  outcome k level R X Y is (both_refused e) counted = by (lifted_barred st.storage 0 items r (deepened k e))
     where
       at : deep 0 items ≡ k
       at = deep_is 0 items ∙ (let z : 0 + length items ≡ k = omega (arith, level) in z)
 
-      by : LowFault (deep 0 items) (lifted st.storage 0 items r (Barred (raised k e))) ⊎ ((lifted st.storage 0 items r (Barred (raised k e)) ≡ Barred (raised k e)) × (((raised k e).level < 0) ⊎ (deep 0 items ≤ (raised k e).level))) → LinkedAfter h items A F (moved_by st h R).state (alone T c)
-      by (inl f) = absurd (low_fault st h k R (subst (LowFault k) (sym is) (subst (λ (l : ℕ). LowFault l (lifted st.storage 0 items r (Barred (raised k e)))) at f)) counted)
+      by : LowFault (deep 0 items) (lifted st.storage 0 items r (Barred (deepened k e))) ⊎ ((lifted st.storage 0 items r (Barred (deepened k e)) ≡ Barred (deepened k e)) × (((deepened k e).level < 0) ⊎ (deep 0 items ≤ (deepened k e).level))) → LinkedAfter h items A F (moved_by st h R).state (alone T c)
+      by (inl f) = absurd (low_fault st h k R (subst (LowFault k) (sym is) (subst (λ (l : ℕ). LowFault l (lifted st.storage 0 items r (Barred (deepened k e)))) at f)) counted)
       by (inr (same, side)) = (T, c, refl, subst (λ (Z : Stepped). Linked h items A F (moved_by st h Z).state T c) (sym (is ∙ same)) link)
 
   -- the machine at the end of the items makes the step, or it is no step that counts

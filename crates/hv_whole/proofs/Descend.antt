@@ -54,15 +54,15 @@ next_follows S F zero y e = absurd (let f : None ≡ Some y = e in cc)
 next_follows S F (suc s) y e = (follows S F (suc s) y e).child
 
 -- a running path that begins with the page of a child goes on in that child
-record Goes (n : ℕ) (S : List ℕ) (F : List Slot) (j : ℕ) (x : Item) (xs : List Item) (r : Regs) : Type 0 where
+record GoesInto (n : ℕ) (S : List ℕ) (F : List Slot) (j : ℕ) (x : Item) (xs : List Item) (r : Regs) : Type 0 where
   child : child_next S F r.next ≡ Some x
   rest : begins (syllables xs) (running n S (compose S F j x.pages x.table x.version) (j + 1) (regs_at S x.block)) ≡ true
 
-goes : (n : ℕ) (S : List ℕ) (F : List Slot) (j : ℕ) (x : Item) (xs : List Item) (r : Regs) → IsChild S F x → begins (syllables (x ∷ xs)) (running (suc n) S F j r) ≡ true → Goes n S F j x xs r
+goes : (n : ℕ) (S : List ℕ) (F : List Slot) (j : ℕ) (x : Item) (xs : List Item) (r : Regs) → IsChild S F x → begins (syllables (x ∷ xs)) (running (suc n) S F j r) ≡ true → GoesInto n S F j x xs r
 unfolding running
 goes n S F j x xs r child e = go (child_next S F r.next) refl e
   where
-    go : (o : Option Item) → child_next S F r.next ≡ o → begins (syllables (x ∷ xs)) (run_on (running n) S F j o) ≡ true → Goes n S F j x xs r
+    go : (o : Option Item) → child_next S F r.next ≡ o → begins (syllables (x ∷ xs)) (run_on (running n) S F j o) ≡ true → GoesInto n S F j x xs r
     go None is f = absurd (let h : false ≡ true = f in cc)
     go (Some y) is f =
         let parts = and_parts (x.syllable == y.syllable) (begins (syllables xs) (running n S (compose S F j y.pages y.table y.version) (j + 1) (regs_at S y.block))) f in

@@ -22,7 +22,7 @@ use Rattle.hv_exec.specs.Answer.{Answer, Next, Trap, Load, Store, Enter}
 use Rattle.hv_exec.specs.Do.{do_of}
 use Rattle.hv_exec.specs.Memory.{lane_at}
 use Rattle.hv_exec.specs.Act.{Acted, Done, Refused, trapped, loaded, load_at, stored, store_at, entered, enter_page, enter_at, carried_out, decoded, fetched, fetch_at, act_of}
-use Rattle.hv_block.specs.Block.{Held, block_of, with_fault, access_word}
+use Rattle.hv_block.specs.Block.{Contents, block_of, with_fault, access_word}
 use Rattle.hv_block.proofs.Words.{length-put_regs}
 use Rattle.hv_limits.specs.Limits.{depth_limit}
 use Rattle.hv_map.specs.Compose.{compose}
@@ -174,11 +174,11 @@ abbrev IsLong : Machine → Type 0
 IsLong deeper = (S : List ℕ) (F : List Slot) (j hart : ℕ) (r : Regs) → StepsLong S (deeper S F j hart r)
 
 module _ (deeper : Machine) (long : IsLong deeper) (S : List ℕ) (F : List Slot) (j : ℕ) (r : Regs) where
-  child_long : (g : ℕ) (o : Option Held) → StepsLong S (child_step deeper S F j r g o)
+  child_long : (g : ℕ) (o : Option Contents) → StepsLong S (child_step deeper S F j r g o)
   child_long g None = told_long S j r g (malformed j r.next)
-  child_long g (Some held) =
-      back_long S j r g (deeper S (compose S F j held.pages held.table held.version) (j + 1) 0 held.regs)
-      (long S (compose S F j held.pages held.table held.version) (j + 1) 0 held.regs)
+  child_long g (Some contents) =
+      back_long S j r g (deeper S (compose S F j contents.pages contents.table contents.version) (j + 1) 0 contents.regs)
+      (long S (compose S F j contents.pages contents.table contents.version) (j + 1) 0 contents.regs)
 
   through_long : (way : Way) → StepsLong S (child_through deeper S F j r way)
   unfolding StepsLong

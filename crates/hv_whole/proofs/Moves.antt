@@ -16,7 +16,7 @@ use Rattle.hv_nest.specs.Simulation.{SimulationLaw}
 use Rattle.hv_nest.proofs.SimulationLaws.{simulation}
 use Rattle.hv_nest.specs.Routing.{hart_along}
 use Rattle.hv_whole.specs.Whole.{own}
-use Rattle.hv_whole.specs.Linked.{Alone, Linked, Keeps, RunKeeps, bare_move, bare_run}
+use Rattle.hv_whole.specs.Linked.{Alone, Linked, LeavesLinked, RunKeeps, bare_move, bare_run}
 use Rattle.hv_whole.proofs.Foots.{each_both}
 use Rattle.hv_whole.proofs.Lengths.{move_long}
 use Rattle.hv_whole.proofs.Links.{sees_same}
@@ -30,7 +30,7 @@ last_append st (x ∷ xs) ys = last_append (state_after st x) xs ys
 
 module _ (law : SimulationLaw) (A : List ℕ) (items : List Item) (F : List Slot) (apart : Alone A items F) (h : ℕ) (zeroth : hart_along items h ≡ 0) where
   -- a move that leaves what the machine has, but maybe for its registers
-  kept_link : (st next : State) (T : List ℕ) (c d : Regs) → Linked h items A F st T c → Keeps h items A F st next → own h items next ≡ d → Linked h items A F next T d
+  kept_link : (st next : State) (T : List ℕ) (c d : Regs) → Linked h items A F st T c → LeavesLinked h items A F st next → own h items next ≡ d → Linked h items A F next T d
   kept_link st next T c d link keeps regs = record {
     chain = each_both (λ g w. word_at A g w ≡ word_at st.storage g w) (λ g w. word_at st.storage g w ≡ word_at next.storage g w) (λ g w. word_at A g w ≡ word_at next.storage g w) (λ g w p q. p ∙ q) A (identity (page_count A)) 0 items link.chain keeps.chain;
     len = keeps.len ∙ link.len;
@@ -39,7 +39,7 @@ module _ (law : SimulationLaw) (A : List ℕ) (items : List Item) (F : List Slot
   }
 
   -- a move that doesn't count
-  beside_move : (st next : State) (T : List ℕ) (c : Regs) → Linked h items A F st T c → Keeps h items A F st next
+  beside_move : (st next : State) (T : List ℕ) (c : Regs) → Linked h items A F st T c → LeavesLinked h items A F st next
       → LinkedAfter h items A F next (last_of (alone T c) (cond (lines_of h items st == lines_of h items next) [] (LinesOf 0 (lines_of h items next) ∷ [])))
   unfolding last_of LinkedAfter
   beside_move st next T c link keeps = by (lines_of h items st == lines_of h items next) refl
@@ -57,7 +57,7 @@ module _ (law : SimulationLaw) (A : List ℕ) (items : List Item) (F : List Slot
   counted_move st (LinesOf hart m) T c link there e = absurd (let f : false ≡ true = e in cc)
 
   one_move : (st : State) (move : Move) (T : List ℕ) (c : Regs) → Linked h items A F st T c → h < length st.harts
-      → (is_counted h (syllables items) st move ≡ false → Keeps h items A F st (state_after st move))
+      → (is_counted h (syllables items) st move ≡ false → LeavesLinked h items A F st (state_after st move))
       → LinkedAfter h items A F (state_after st move) (last_of (alone T c) (bare_move h (syllables items) items st move))
   one_move st move T c link there keeps = by (is_counted h (syllables items) st move) refl
     where

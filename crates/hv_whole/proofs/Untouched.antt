@@ -21,7 +21,7 @@ use Rattle.hv_nest.specs.Routing.{regs_along}
 use Rattle.hv_nest.specs.State.{State}
 use Rattle.hv_nest.specs.Watched.{is_outside, is_counted, last_block, are_same, same_status, keeps_foot, foot, lines_at, lines_of}
 use Rattle.hv_whole.specs.Whole.{hart_regs, regs_of, own, IsMasked}
-use Rattle.hv_whole.specs.Linked.{Alone, Keeps}
+use Rattle.hv_whole.specs.Linked.{Alone, LeavesLinked}
 use Rattle.hv_whole.proofs.Lined.{relined_own, relined_other, lines_relined}
 use Rattle.hv_whole.proofs.Members.{Has, has_left, has_right, has_below, same_places}
 use Rattle.hv_whole.proofs.Foots.{foot_own, foot_chain, foot_page}
@@ -224,7 +224,7 @@ module _ (h : ℕ) (p : List ℕ) (items : List Item) (A : List ℕ) (stand : Al
 
   pub keeps : (st : State) (move : Move) → IsMasked move → is_counted h p st move ≡ false
       → keeps_foot (foot A items) items st.storage (state_after st move).storage ≡ true
-      → Keeps h items A (map_along A items) st (state_after st move)
+      → LeavesLinked h items A (map_along A items) st (state_after st move)
   keeps st move masked free keep =
       let next : State = state_after st move in
       let same : are_same (foot A items) st.storage next.storage ≡ true = (and_parts (are_same (foot A items) st.storage next.storage) (same_status (last_block items) st.storage next.storage) keep).0 in

@@ -65,7 +65,7 @@ pub record Linked (h : ℕ) (items : List Item) (A : List ℕ) (F : List Slot) (
   pub regs : own h items st ≡ c
 
 -- what a move from st to next leaves as it was where it doesn't count and doesn't touch
-pub record Keeps (h : ℕ) (items : List Item) (A : List ℕ) (F : List Slot) (st next : State) : Type 0 where
+pub record LeavesLinked (h : ℕ) (items : List Item) (A : List ℕ) (F : List Slot) (st next : State) : Type 0 where
   pub chain : EachChain (λ g w. word_at st.storage g w ≡ word_at next.storage g w) A (identity (page_count A)) 0 items
   pub len : length next.storage ≡ length st.storage
   pub pages : (y x w : ℕ) (s : Slot)
@@ -80,7 +80,7 @@ pub record Keeps (h : ℕ) (items : List Item) (A : List ℕ) (F : List Slot) (s
 abbrev pub RunKeeps : ℕ → List ℕ → List Item → List ℕ → List Slot → State → List Move → Type 0
 RunKeeps h p items A F st [] = Unit {0}
 RunKeeps h p items A F st (move ∷ moves) =
-    (is_counted h p st move ≡ false → Keeps h items A F st (state_after st move))
+    (is_counted h p st move ≡ false → LeavesLinked h items A F st (state_after st move))
     × RunKeeps h p items A F (state_after st move) moves
 
 -- what the bare machine does for a move: a step where it counts, and else a change of its lines if they are others

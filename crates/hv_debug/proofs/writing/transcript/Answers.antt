@@ -3,7 +3,7 @@ use Rattle.std.specs.Prelude.{fold}
 use Rattle.hv_load.specs.declared.start.Named.{Named}
 use Rattle.hv_run.proofs.Moves.{last_none}
 use Rattle.hv_run.specs.Record.{schedule}
-use Rattle.hv_debug.specs.Reaching.{Goes}
+use Rattle.hv_debug.specs.Reaching.{Becomes}
 use Rattle.hv_debug.specs.Transcript.{after_line, session_before}
 use Rattle.hv_debug.proofs.Sessions.{session_more}
 use Rattle.hv_debug.proofs.writing.transcript.Goals as goal
@@ -33,7 +33,7 @@ loop-line-preserved g c =
     let there = g.N.Nested.state c.line.new.nested in
     let before = fold (after_line start names) (session_before job.recording) (take c.loop-line.line-index lines) in
     let goes = subst
-    (λ (ns : List Named). Goes (λ start s. after_line start ns s c.line-item.result) c.loop-line.debugger here c.line.new.self there)
+    (λ (ns : List Named). Becomes (λ start s. after_line start ns s c.line-item.result) c.loop-line.debugger here c.line.new.self there)
     c.as_slice.ensures
     c.in_ok-line.ensures.goes in
     record {

@@ -11,7 +11,7 @@ use Rattle.hv_nest.specs.Move.{last_of}
 use Rattle.hv_word.specs.Storage.{page_count}
 use Rattle.hv_run.specs.Record.{schedule, PlayRecord}
 use Rattle.hv_run.specs.Stands.{CanWatch, watches_of}
-use Rattle.hv_report.specs.Report.{AreThere}
+use Rattle.hv_report.specs.Report.{AreInState}
 use Rattle.hv_run.specs.Run.{steps_in}
 use Rattle.hv_top.specs.Check.{IsRow}
 use Rattle.hv_top.specs.Run.{state_of}
@@ -51,8 +51,8 @@ pub returns-clause-there : goal.returns-clause-there
 returns-clause-there c =
     let h = c.requires.ready in
     let can = can_watch c.args.start c.new-plain.result c.as_slice.result.now c.new-plain.ensures c.as_slice.ensures h.watches in
-    subst (λ (st : State). AreThere st c.in_ok-record.record.watches) (sym c.in_ok-record.ensures.state)
-    (subst (λ (t : PlayRecord). AreThere (last_of c.new-plain.result (schedule c.events.result.now)) t.watches) (sym c.in_ok-record.ensures.record)
+    subst (λ (st : State). AreInState st c.in_ok-record.record.watches) (sym c.in_ok-record.ensures.state)
+    (subst (λ (t : PlayRecord). AreInState (last_of c.new-plain.result (schedule c.events.result.now)) t.watches) (sym c.in_ok-record.ensures.record)
     (there c.new-plain.result (schedule c.events.result.now) (watches_of c.as_slice.result.now) can))
 
 pub returns-clause-rows : goal.returns-clause-rows

@@ -1,6 +1,6 @@
 use Rattle.std.proofs.Common.{refl, sym, subst, OnOk}
 use Rattle.hv_line.specs.declared.types.DebugCommand.{DebugCommand}
-use Rattle.hv_debug.specs.Reaching.{Goes}
+use Rattle.hv_debug.specs.Reaching.{Becomes}
 use Rattle.hv_debug.specs.Transcript.{after_command}
 use Rattle.hv_debug.proofs.Sessions.{stays}
 use Rattle.hv_debug.proofs.debugger.Debugger.answer.Goals as goal
@@ -8,7 +8,7 @@ use Rattle.hv_debug.proofs.debugger.Debugger.answer.Goals as goal
 pub returns-in-Step-clause-goes : goal.returns-in-Step-clause-goes
 returns-in-Step-clause-goes g c =
     subst
-    (λ (w : DebugCommand). OnOk c.step.result (Goes (λ start s. after_command start c.args.names.now s w) c.args.self.now (g.N.Nested.state c.args.nested.now) c.step.new.self (g.N.Nested.state c.step.new.nested)))
+    (λ (w : DebugCommand). OnOk c.step.result (Becomes (λ start s. after_command start c.args.names.now s w) c.args.self.now (g.N.Nested.state c.args.nested.now) c.step.new.self (g.N.Nested.state c.step.new.nested)))
     (sym c.in-Step.is)
     c.step.ensures.goes
 

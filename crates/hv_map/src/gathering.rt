@@ -4,8 +4,8 @@ ghost use Rattle.std.specs.Prelude.{◌≡◌, ◌+◌, ◌*◌, ◌<◌, ◌≤
 ghost use Rattle.hv_word.specs.Storage.{page_count};
 ghost use Rattle.hv_map.specs.Chain.{map_along};
 ghost use Rattle.hv_map.specs.Compose.{reading, look};
-ghost use Rattle.hv_map.specs.Levels.{map_at, table_at, entry_at, child_slot_at, reads_at, reads_bound, looked, IsWayWithin, IsWithin};
-ghost use Rattle.hv_map.specs.Noted.{directory_pages, entry_pages, note_slot, notes_along, notes_at, pages_read, with_pages, word_pages};
+ghost use Rattle.hv_map.specs.Levels.{map_at, table_at, entry_at, child_slot_at, reads_at, reads_bound, looked, IsWayWithin, IsSlotWithin};
+ghost use Rattle.hv_map.specs.Gathered.{directory_pages, entry_pages, gathered_slot, gathered_along, gathered_at, pages_read, with_pages, word_pages};
 
 use crate::chain::{Chain, Link};
 use crate::lookup::{every, granted, pages_at, present, shut};
@@ -17,8 +17,8 @@ use std::sync::ledger::Ledger;
 /// Where page `page` of the chain's machine lies, as `resolve` finds it and with as many table words read at most. The bare
 /// pages of tables and directories whose words are read, and that aren't in `tables` yet, are added to it in the order of
 /// first reading.
-#[tactic(auto, using(crate::proofs::Levels::chains, crate::proofs::Notes::noted_chains))]
-pub fn resolve_noting<L: Ledger>(
+#[tactic(auto, using(crate::proofs::Levels::chains, crate::proofs::GatheredMaps::gathered_chains))]
+pub fn resolve_gathering<L: Ledger>(
     store: &Store,
     chain: &Chain,
     page: u32,
@@ -27,17 +27,17 @@ pub fn resolve_noting<L: Ledger>(
 ) -> Slot
     requires { page < length (map_along store.now chain.now) }
     ensures slot { slice_get (map_along store.now chain.now) page ≡ Some result }
-    ensures within { IsWithin (page_count store.now) (length chain.now) result }
+    ensures within { IsSlotWithin (page_count store.now) (length chain.now) result }
     ensures ticks { steps.new < steps.old + reads_bound chain.now }
-    ensures tables { tables.new ≡ with_pages tables.old (pages_read (notes_along store.now chain.now) page) }
+    ensures tables { tables.new ≡ with_pages tables.old (pages_read (gathered_along store.now chain.now) page) }
 {
-    note_at(store, chain, chain.len(), page, tables, steps)
+    gather_at(store, chain, chain.len(), page, tables, steps)
 }
 
 // The slot of a page of the machine at a level of the chain.
-#[cycle(noting)]
+#[cycle(gathering)]
 #[tactic(auto, using(crate::proofs::Levels::levels))]
-fn note_at<L: Ledger>(
+fn gather_at<L: Ledger>(
     store: &Store,
     chain: &Chain,
     level: u32,
@@ -48,14 +48,14 @@ fn note_at<L: Ledger>(
     requires level { level ≤ length chain.now }
     requires page { page < length (map_at store.now chain.now level) }
     ensures slot { slice_get (map_at store.now chain.now level) page ≡ Some result }
-    ensures within { IsWithin (page_count store.now) (length chain.now) result }
+    ensures within { IsSlotWithin (page_count store.now) (length chain.now) result }
     ensures ticks { steps.new < steps.old + reads_at chain.now level }
-    ensures tables { tables.new ≡ with_pages tables.old (pages_read (notes_at store.now chain.now level) page) }
+    ensures tables { tables.new ≡ with_pages tables.old (pages_read (gathered_at store.now chain.now level) page) }
 {
     if level == 0 {
         return every(Way::Open { host: page });
     }
-    note_child(
+    gather_child(
         store,
         chain,
         level - 1,
@@ -67,9 +67,9 @@ fn note_at<L: Ledger>(
 }
 
 // The same, none where the machine has no such page.
-#[cycle(noting)]
+#[cycle(gathering)]
 #[tactic(auto, using(crate::proofs::Levels::levels))]
-fn note_page<L: Ledger>(
+fn gather_page<L: Ledger>(
     store: &Store,
     chain: &Chain,
     level: u32,
@@ -79,20 +79,20 @@ fn note_page<L: Ledger>(
 ) -> Option<Slot>
     requires level { level ≤ length chain.now }
     ensures slot { result ≡ slice_get (map_at store.now chain.now level) page }
-    ensures within { IfSome result (λ s. IsWithin (page_count store.now) (length chain.now) s) }
+    ensures within { IfSome result (λ s. IsSlotWithin (page_count store.now) (length chain.now) s) }
     ensures ticks { steps.new < steps.old + reads_at chain.now level }
-    ensures tables { tables.new ≡ with_pages tables.old (pages_read (notes_at store.now chain.now level) page) }
+    ensures tables { tables.new ≡ with_pages tables.old (pages_read (gathered_at store.now chain.now level) page) }
 {
     if page >= u64::from(pages_at(store, chain, level)) {
         return None;
     }
-    Some(note_at(store, chain, level, page as u32, tables, steps))
+    Some(gather_at(store, chain, level, page as u32, tables, steps))
 }
 
 // The slot of page `page` of a child of the machine at a level, which the link describes.
-#[cycle(noting)]
+#[cycle(gathering)]
 #[tactic(auto, using(crate::proofs::Levels::levels))]
-fn note_child<L: Ledger>(
+fn gather_child<L: Ledger>(
     store: &Store,
     chain: &Chain,
     level: u32,
@@ -104,14 +104,14 @@ fn note_child<L: Ledger>(
     requires level { level < length chain.now }
     requires page { page < 2 ^ 20 }
     ensures slot { result ≡ child_slot_at store.now chain.now level child page }
-    ensures within { IsWithin (page_count store.now) (length chain.now) result }
+    ensures within { IsSlotWithin (page_count store.now) (length chain.now) result }
     ensures ticks { steps.new < steps.old
         + (if child.version == 2 then 3 * reads_at chain.now level else 2 * reads_at chain.now level) }
-    ensures tables { tables.new ≡ with_pages tables.old (note_slot store.now (notes_at store.now chain.now level) level child.table child.version page).pages }
+    ensures tables { tables.new ≡ with_pages tables.old (gathered_slot store.now (gathered_at store.now chain.now level) level child.table child.version page).pages }
 {
-    match note_entry(store, chain, level, child, page, tables, steps) {
+    match gather_entry(store, chain, level, child, page, tables, steps) {
         Err(way) => every(way),
-        Ok(entry) => match note_page(
+        Ok(entry) => match gather_page(
             store,
             chain,
             level,
@@ -126,8 +126,8 @@ fn note_child<L: Ledger>(
 }
 
 // The table word of page `page` of such a child, or the way that is shut before it is reached or by it.
-#[cycle(noting)]
-fn note_entry<L: Ledger>(
+#[cycle(gathering)]
+fn gather_entry<L: Ledger>(
     store: &Store,
     chain: &Chain,
     level: u32,
@@ -142,15 +142,15 @@ fn note_entry<L: Ledger>(
     ensures within { IfErr result (λ way. IsWayWithin (page_count store.now) (length chain.now) way) }
     ensures ticks { steps.new ≤ steps.old
         + (if child.version == 2 then 2 * reads_at chain.now level else reads_at chain.now level) }
-    ensures tables { tables.new ≡ with_pages tables.old (entry_pages store.now (notes_at store.now chain.now level) level child.table child.version page) }
+    ensures tables { tables.new ≡ with_pages tables.old (entry_pages store.now (gathered_at store.now chain.now level) level child.table child.version page) }
 {
-    let table = note_table(store, chain, level, child, page, tables, steps)?;
-    note_word(store, chain, level, page, table, page % 1024, tables, steps)
+    let table = gather_table(store, chain, level, child, page, tables, steps)?;
+    gather_word(store, chain, level, page, table, page % 1024, tables, steps)
 }
 
 // The page of the machine at a level in which that word is: named by the child's directory, or counted from its table.
-#[cycle(noting)]
-fn note_table<L: Ledger>(
+#[cycle(gathering)]
+fn gather_table<L: Ledger>(
     store: &Store,
     chain: &Chain,
     level: u32,
@@ -164,10 +164,10 @@ fn note_table<L: Ledger>(
     ensures table { looked result ≡ table_at store.now chain.now level child page }
     ensures within { IfErr result (λ way. IsWayWithin (page_count store.now) (length chain.now) way) }
     ensures ticks { steps.new ≤ steps.old + (if child.version == 2 then reads_at chain.now level else 0) }
-    ensures tables { tables.new ≡ with_pages tables.old (directory_pages (notes_at store.now chain.now level) child.table child.version) }
+    ensures tables { tables.new ≡ with_pages tables.old (directory_pages (gathered_at store.now chain.now level) child.table child.version) }
 {
     if child.version == 2 {
-        let word = note_word(
+        let word = gather_word(
             store,
             chain,
             level,
@@ -184,8 +184,8 @@ fn note_table<L: Ledger>(
 }
 
 // Word `word` of page `table` of the machine at a level, for its child's page `page`.
-#[cycle(noting)]
-fn note_word<L: Ledger>(
+#[cycle(gathering)]
+fn gather_word<L: Ledger>(
     store: &Store,
     chain: &Chain,
     level: u32,
@@ -201,9 +201,9 @@ fn note_word<L: Ledger>(
     ensures word { looked result ≡ look store.now level page word (reading (map_at store.now chain.now level) table) }
     ensures within { IfErr result (λ way. IsWayWithin (page_count store.now) (length chain.now) way) }
     ensures ticks { steps.new ≤ steps.old + reads_at chain.now level }
-    ensures tables { tables.new ≡ with_pages tables.old (word_pages (notes_at store.now chain.now level) table) }
+    ensures tables { tables.new ≡ with_pages tables.old (word_pages (gathered_at store.now chain.now level) table) }
 {
-    let Some(slot) = note_page(store, chain, level, table, tables, steps) else {
+    let Some(slot) = gather_page(store, chain, level, table, tables, steps) else {
         return Err(shut(level, 4, page));
     };
     match slot.read {

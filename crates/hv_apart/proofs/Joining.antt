@@ -1,7 +1,7 @@
 -- One number more in a set, and many.
 use Rattle.std.proofs.Common.{◌≡◌, ℕ, Bool, ◌||◌, ◌==◌, List, [], ◌∷◌, ◌++◌, replicate, ap, ◌∙◌, sym}
 use Rattle.std.proofs.Math.Bool.{or-false}
-use Rattle.hv_map.specs.Apart.{has}
+use Rattle.hv_word.specs.Words.{has}
 use Rattle.hv_apart.specs.Marked.{is_marked, SetOf, Joined}
 use Rattle.hv_apart.proofs.BitSets.{marks_none}
 use Rattle.hv_apart.proofs.Lists.{has-append, or_assoc, same_or}

@@ -1,7 +1,8 @@
 -- Lists of numbers that grow at their end.
 use Rattle.std.proofs.Common.{◌≡◌, ℕ, Bool, true, false, not, ◌&&◌, ◌||◌, ◌==◌, List, [], ◌∷◌, ◌++◌, refl, ap, ap₂, ◌∙◌, sym, arith}
 use Rattle.std.proofs.lemmas.Bool.Decides.{nat_tests}
-use Rattle.hv_map.specs.Apart.{has, are_distinct}
+use Rattle.hv_word.specs.Words.{has}
+use Rattle.hv_map.specs.Apart.{are_distinct}
 
 pub or_assoc : (a b c : Bool) → ((a || b) || c) ≡ (a || (b || c))
 or_assoc true b c = refl

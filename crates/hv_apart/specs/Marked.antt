@@ -1,7 +1,6 @@
 -- Sets of numbers, kept as the bits of a list of words.
 use Rattle.std.specs.Prelude.{◌≡◌, ℕ, ◌/◌, ◌%◌, Bool, ◌==◌, ◌||◌, List, slice_index}
-use Rattle.hv_word.specs.Words.{field_of}
-use Rattle.hv_map.specs.Apart.{has}
+use Rattle.hv_word.specs.Words.{field_of, has}
 
 -- whether number a is in the set: bit a % 32 of word a / 32
 unfoldable pub is_marked : List ℕ → ℕ → Bool

@@ -1,5 +1,5 @@
 -- A word that is made decodes to its instruction, and its immediate is the number that was written.
-use Rattle.std.proofs.Common.{◌≡◌, ℕ, zero, suc, ◌+◌, ◌-◌, ◌^◌, ◌<◌, ◌≤◌, nat_lt, lit<, ℤ, pos, negsuc, neg_ℤ, ◌-ℤ◌, true, false, cond, List, [], ◌∷◌, Option, Some, None, Result, Ok, refl, sym, ap, ◌∙◌, subst, arith, find, option_map}
+use Rattle.std.proofs.Common.{◌≡◌, ℕ, zero, suc, ◌+◌, ◌-◌, ◌^◌, ◌<◌, ◌≤◌, nat_lt, lit<, ℤ, pos, negsuc, ◌-ℤ◌, true, false, cond, List, [], ◌∷◌, Option, Some, None, Result, Ok, refl, sym, ap, ◌∙◌, subst, arith, find, option_map}
 use Rattle.std.specs.List.{AllByRecursion}
 use Rattle.std.specs.Option.{option_or}
 use Rattle.std.specs.Str.{bytes_eq}
@@ -10,7 +10,7 @@ use Rattle.hv_isa.specs.Table.{decode_of, row_of, spell}
 use Rattle.hv_isa.proofs.Decoding.{decode_of-row}
 use Rattle.hv_asm.specs.Amounts.{amount_of, distance, within, within_signed, word_of}
 use Rattle.hv_asm.specs.Forms.{form_of, immediate_of, UsesRegisters, word_with}
-use Rattle.hv_asm.specs.Meaning.{signed_of}
+use Rattle.hv_word.specs.Words.{signed_of}
 use Rattle.hv_asm.specs.Names.{number_in, numbered, register_of, used}
 use Rattle.hv_asm.specs.declared.AsmKind.{AsmKind}
 use Rattle.hv_asm.specs.declared.amounts.Amount.{Amount}
@@ -63,13 +63,13 @@ decoded op f rd rs1 rs2 w a form regs is =
 signed_low : (w : ℕ) → w < 2 ^ 31 → signed_of w ≡ pos w
 signed_low w low = grind (arith, nat_tests)
 
-signed_high : (w : ℕ) → 2 ^ 31 ≤ w → signed_of w ≡ neg_ℤ (pos (2 ^ 32 - w))
+signed_high : (w : ℕ) → 2 ^ 31 ≤ w → signed_of w ≡ negsuc (2 ^ 32 - 1 - w)
 signed_high w high = grind (arith, nat_tests)
 
 minus_is : (n imm : ℕ) → suc n + imm ≡ 2 ^ 32 → suc n ≤ 2 ^ 31 → negsuc n ≡ signed_of imm
 minus_is n imm sum few =
-    let e : 2 ^ 32 - imm ≡ suc n = omega (arith, sum) in
-    sym (signed_high imm (omega (arith, sum, few)) ∙ ap (λ (m : ℕ). neg_ℤ (pos m)) e)
+    let e : 2 ^ 32 - 1 - imm ≡ n = omega (arith, sum) in
+    sym (signed_high imm (omega (arith, sum, few)) ∙ ap negsuc e)
 
 pub signed_number : (z : ℤ) (bound imm : ℕ) → bound ≤ 2 ^ 31 → within_signed bound (amount_of z) ≡ true → word_of (amount_of z) ≡ imm → z ≡ signed_of imm
 signed_number (pos n) bound imm low inside is =

@@ -9,7 +9,8 @@ use Rattle.hv_lex.specs.declared.Token.{Token}
 use Rattle.hv_lex.specs.declared.Kind.TheVariants.{Number}
 use Rattle.hv_asm.specs.Amounts.{amount_of, within, within_signed, word_of}
 use Rattle.hv_asm.specs.Forms.{UsesRegisters, form_of, immediate_of, ranged, word_with}
-use Rattle.hv_asm.specs.Meaning.{Alone, IsInstruction, IsNumber, IsOperand, signed_of}
+use Rattle.hv_word.specs.Words.{signed_of}
+use Rattle.hv_asm.specs.Meaning.{Alone, IsInstruction, IsNumber, IsOperand}
 use Rattle.hv_asm.specs.Roles.{Role, Rd, Rs1, Rs2, Immediate, Upper, Based, Target, Control, Small, plain, rest_of, roles_of}
 use Rattle.hv_asm.specs.Rows.{bare_word, branch_word, csr, csr_number_word, csr_register_word, form_word, immediate_word, jump_word, load_word, number, plain_jump_word, register, register_at, registers_word, row_word, small, source_word, sources_word, store_word, target, upper_word, zero_word}
 use Rattle.hv_asm.specs.Words.{bare_short, csr_read_word, csr_write_word, move_word}

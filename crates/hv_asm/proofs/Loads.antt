@@ -7,7 +7,8 @@ use Rattle.hv_isa.specs.declared.Op.TheVariants as op
 use Rattle.hv_lex.specs.declared.Token.{Token}
 use Rattle.hv_asm.specs.Amounts.{amount_of, word_of}
 use Rattle.hv_asm.specs.Forms.{immediate_of, word_with}
-use Rattle.hv_asm.specs.Meaning.{Alone, Contributes, IsAddress, IsLoad, IsNumber, IsRegister, IsWordValue, One, Two, signed_of}
+use Rattle.hv_word.specs.Words.{signed_of}
+use Rattle.hv_asm.specs.Meaning.{Alone, Contributes, IsAddress, IsLoad, IsNumber, IsRegister, IsWordValue, One, Two}
 use Rattle.hv_asm.specs.Rows.{address, number, register}
 use Rattle.hv_asm.specs.Words.{high_part, is_defined, is_value, la_words, li_words, low_part, pair_words, space_count, value, value_at, value_words, values_of, zeros_of}
 use Rattle.hv_asm.specs.declared.AsmKind.{AsmKind}

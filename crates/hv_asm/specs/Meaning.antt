@@ -1,6 +1,7 @@
 -- What the operands of a line say, and the words that its operation makes of them.
-use Rattle.std.specs.Prelude.{ℕ, ◌≡◌, ◌⊎◌, ◌+◌, ◌-◌, ◌*◌, ◌%◌, ◌^◌, ◌<◌, ◌≤◌, nat_lt, if◌then◌else◌, ℤ, pos, neg_ℤ, ◌-ℤ◌, List, [], ◌∷◌, length, replicate, fold, Option, Some}
+use Rattle.std.specs.Prelude.{ℕ, ◌≡◌, ◌⊎◌, ◌+◌, ◌-◌, ◌*◌, ◌%◌, ◌^◌, ◌<◌, ◌≤◌, ℤ, pos, ◌-ℤ◌, List, [], ◌∷◌, length, replicate, fold, Option, Some}
 use Rattle.std.specs.List.{AllZip}
+use Rattle.hv_word.specs.Words.{signed_of}
 use Rattle.hv_isa.specs.Csrs.{csr_number_of}
 use Rattle.hv_isa.specs.Table.{decode_of}
 use Rattle.hv_isa.specs.declared.Instr.{Instr}
@@ -16,10 +17,6 @@ use Rattle.hv_asm.specs.Roles.{Role, Rd, Rs1, Rs2, Immediate, Upper, Based, Targ
 -- the labels that are defined, and their addresses
 abbrev pub Addresses : Type 0
 Addresses = List ℕ → Option ℕ
-
--- a word as a signed number
-abbrev pub signed_of : ℕ → ℤ
-signed_of w = if nat_lt w (2 ^ 31) then pos w else neg_ℤ (pos (2 ^ 32 - w))
 
 -- a number
 abbrev pub IsNumber : Token → ℤ → Type 0

@@ -6,7 +6,7 @@ use Rattle.hv_word.specs.Storage.{word_at}
 use Rattle.hv_cpu.specs.Regs.{Regs, reg, with_reg, spelled}
 use Rattle.std.specs.Prelude.{◌/◌, ◌%◌, bit_and, bit_or, bit_xor}
 use Rattle.std.proofs.Common.{lit≤}
-use Rattle.hv_word.specs.Words.{field_of, lane_of, lane_with}
+use Rattle.hv_word.specs.Words.{field_of, lane_of, lane_with, has}
 use Rattle.hv_isa.specs.declared.Instr.{Instr}
 use Rattle.hv_isa.specs.declared.Op.{Op}
 use Rattle.hv_isa.specs.declared.Op.TheVariants.{Lui, Auipc, Jal, Jalr, Beq, Bne, Blt, Bge, Bltu, Bgeu, Lb, Lh, Lw, Lbu, Lhu, Sb, Sh, Sw, Addi, Slti, Sltiu, Xori, Ori, Andi, Slli, Srli, Srai, Add, Sub, Sll, Slt, Sltu, Xor, Srl, Sra, Or, And, Fence, FenceI, Ecall, Ebreak, Csrrw, Csrrs, Csrrc, Csrrwi, Csrrsi, Csrrci, Sret, Mret, Wfi, SfenceVma, Vmenter}
@@ -38,7 +38,7 @@ use Rattle.hv_exec.specs.Memory.{bytes_of, loading, storing, lane_at, extended}
 use Rattle.hv_exec.specs.System.{new_value, stored_csr, answered_csr, read_csr, csr_row, returned, may_wait, may_fence, entering}
 use Rattle.hv_exec.specs.Do.{gives, row_answer, do_of}
 use Rattle.hv_exec.specs.Act.{Done, trapped, loaded, load_at, stored, store_at, entered, enter_page, enter_at, carried_out, decoded, fetched, fetch_at, act_of}
-use Rattle.hv_exec.specs.Changes.{differing, changed_regs, among, leads_to, opens_for_writing, ChangesFew}
+use Rattle.hv_exec.specs.Changes.{differing, changed_regs, leads_to, opens_for_writing, ChangesFew}
 
 flag : ℕ → ℕ → ℕ
 flag x y = cond (x == y) 0 1
@@ -409,7 +409,7 @@ false-true : false ≡ true → ⊥
 false-true e = cc
 
 few_done : (S : List ℕ) (F : List Slot) (r q : Regs) (n : ℕ) → n ≤ 6 → Few n r q → ChangesFew S F r (Done S q)
-unfolding Few among
+unfolding Few
 few_done S F r q n h f = ([], n, record { elsewhere = λ a _. refl; regs = f }, omega arith, λ a e. absurd (false-true e))
 
 few_trapped : (S : List ℕ) (F : List Slot) (r : Regs) (cause tval : ℕ) → ChangesFew S F r (trapped S r cause tval)
@@ -485,18 +485,16 @@ slot_leads (s ∷ F) (suc i) slot g e f = ap (λ (t : Bool). leads_to g s.write 
 pub may_write : (F : List Slot) (i : ℕ) (slot : Slot) (g : ℕ) → slice_get F i ≡ Some slot → slot.write ≡ Open g → opens_for_writing F g ≡ true
 may_write F i slot g e f = slot_leads F i slot g e (ap (leads_to g) f ∙ eq-eqb g g refl)
 
-one_place : (p a : ℕ) → among a (p ∷ []) ≡ true → p ≡ a
-unfolding among
-one_place p a e = eqb-true p a (left (p == a) e)
+one_place : (p a : ℕ) → has a (p ∷ []) ≡ true → p ≡ a
+one_place p a e = sym (eqb-true a p (left (a == p) e))
   where
     left : (t : Bool) → (t || false) ≡ true → t ≡ true
     left true z = z
     left false z = z
 
 -- one word of the storage
-one_else : (S : List ℕ) (p v a : ℕ) → among a (p ∷ []) ≡ false → get_or (set S p v) a 0 ≡ get_or S a 0
-unfolding among
-one_else S p v a e = get_or-set_other S p a v 0 (λ q. eqb-false p a (left (p == a) e) (sym q))
+one_else : (S : List ℕ) (p v a : ℕ) → has a (p ∷ []) ≡ false → get_or (set S p v) a 0 ≡ get_or S a 0
+one_else S p v a e = get_or-set_other S p a v 0 (eqb-false a p (left (a == p) e))
   where
     left : (t : Bool) → (t || false) ≡ false → t ≡ false
     left true z = z
@@ -520,13 +518,12 @@ few_store S F r address width v (Found page offset) near = at (slice_get F page)
     at (Some slot) e = through slot e slot.write refl
 
 -- three words of the storage
-three_else : (S : List ℕ) (p q k a : ℕ) (x y z : ℕ) → among a (p ∷ q ∷ k ∷ []) ≡ false → get_or (set (set (set S p x) q y) k z) a 0 ≡ get_or S a 0
-unfolding among
+three_else : (S : List ℕ) (p q k a : ℕ) (x y z : ℕ) → has a (p ∷ q ∷ k ∷ []) ≡ false → get_or (set (set (set S p x) q y) k z) a 0 ≡ get_or S a 0
 three_else S p q k a x y z e =
-    let f = parts (p == a) (q == a) (k == a) e in
-    get_or-set_other (set (set S p x) q y) k a z 0 (λ w. eqb-false k a f.2 (sym w))
-    ∙ get_or-set_other (set S p x) q a y 0 (λ w. eqb-false q a f.1 (sym w))
-    ∙ get_or-set_other S p a x 0 (λ w. eqb-false p a f.0 (sym w))
+    let f = parts (a == p) (a == q) (a == k) e in
+    get_or-set_other (set (set S p x) q y) k a z 0 (eqb-false a k f.2)
+    ∙ get_or-set_other (set S p x) q a y 0 (eqb-false a q f.1)
+    ∙ get_or-set_other S p a x 0 (eqb-false a p f.0)
   where
     no : true ≡ false → ⊥
     no w = cc
@@ -537,14 +534,13 @@ three_else S p q k a x y z e =
     parts false false true w = absurd (no w)
     parts false false false w = (refl, refl, refl)
 
-three_places : (g a : ℕ) → among a ((1024 * g + 72) ∷ (1024 * g + 73) ∷ (1024 * g + 74) ∷ []) ≡ true → a / 1024 ≡ g
-unfolding among
-three_places g a e = by (1024 * g + 72 == a) refl (1024 * g + 73 == a) refl (1024 * g + 74 == a) refl e
+three_places : (g a : ℕ) → has a ((1024 * g + 72) ∷ (1024 * g + 73) ∷ (1024 * g + 74) ∷ []) ≡ true → a / 1024 ≡ g
+three_places g a e = by (a == 1024 * g + 72) refl (a == 1024 * g + 73) refl (a == 1024 * g + 74) refl e
   where
-    by : (s : Bool) → (1024 * g + 72 == a) ≡ s → (t : Bool) → (1024 * g + 73 == a) ≡ t → (u : Bool) → (1024 * g + 74 == a) ≡ u → (s || (t || (u || false))) ≡ true → a / 1024 ≡ g
-    by true p t q u f h = let is : 1024 * g + 72 ≡ a = eqb-true (1024 * g + 72) a p in omega arith
-    by false p true q u f h = let is : 1024 * g + 73 ≡ a = eqb-true (1024 * g + 73) a q in omega arith
-    by false p false q true f h = let is : 1024 * g + 74 ≡ a = eqb-true (1024 * g + 74) a f in omega arith
+    by : (s : Bool) → (a == 1024 * g + 72) ≡ s → (t : Bool) → (a == 1024 * g + 73) ≡ t → (u : Bool) → (a == 1024 * g + 74) ≡ u → (s || (t || (u || false))) ≡ true → a / 1024 ≡ g
+    by true p t q u f h = let is : a ≡ 1024 * g + 72 = eqb-true a (1024 * g + 72) p in omega arith
+    by false p true q u f h = let is : a ≡ 1024 * g + 73 = eqb-true a (1024 * g + 73) q in omega arith
+    by false p false q true f h = let is : a ≡ 1024 * g + 74 = eqb-true a (1024 * g + 74) f in omega arith
     by false p false q false f h = absurd (false-true h)
 
 few_next_page : (r : Regs) (p : ℕ) → Few 1 r (record r { next = p })

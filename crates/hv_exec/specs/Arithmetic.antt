@@ -1,5 +1,6 @@
 -- Arithmetic on words, which are numbers below 2 ^ 32 (Unprivileged ISA, sections 2.4 to 2.6).
-use Rattle.std.specs.Prelude.{ℕ, ◌+◌, ◌-◌, ◌*◌, ◌/◌, ◌%◌, ◌^◌, ℤ, pos, negsuc, int_lt, Bool, nat_lt, if◌then◌else◌}
+use Rattle.std.specs.Prelude.{ℕ, ◌+◌, ◌-◌, ◌*◌, ◌/◌, ◌%◌, ◌^◌, int_lt, Bool, nat_lt, if◌then◌else◌}
+use Rattle.hv_word.specs.Words.{signed_of}
 
 -- sums and differences wrap; overflow is ignored
 abbrev pub sum_of : ℕ → ℕ → ℕ
@@ -7,10 +8,6 @@ sum_of a b = (a + b) % 2 ^ 32
 
 abbrev pub difference_of : ℕ → ℕ → ℕ
 difference_of a b = (a + (2 ^ 32 - b)) % 2 ^ 32
-
--- the number that a word is in two's complement
-abbrev pub signed_of : ℕ → ℤ
-signed_of a = if nat_lt a (2 ^ 31) then pos a else negsuc (2 ^ 32 - 1 - a)
 
 abbrev pub is_less_signed : ℕ → ℕ → Bool
 is_less_signed a b = int_lt (signed_of a) (signed_of b)

@@ -1,7 +1,8 @@
 -- How few words one instruction changes.
-use Rattle.std.specs.Prelude.{◌≡◌, ℕ, ◌+◌, ◌/◌, ◌≤◌, Bool, true, false, ◌==◌, ◌||◌, if◌then◌else◌, List, [], ◌∷◌}
+use Rattle.std.specs.Prelude.{◌≡◌, ℕ, ◌+◌, ◌/◌, ◌≤◌, Bool, true, false, ◌==◌, if◌then◌else◌, List, [], ◌∷◌}
 use Rattle.std.specs.Prelude.{length, slice_index}
 use Rattle.std.specs.List.{list_any}
+use Rattle.hv_word.specs.Words.{has}
 use Rattle.hv_cpu.specs.Regs.{Regs, spelled}
 use Rattle.hv_store.specs.declared.access.Slot.{Slot}
 use Rattle.hv_store.specs.declared.access.Way.{Way}
@@ -18,14 +19,9 @@ differing (x ∷ xs) (y ∷ ys) = (if x == y then 0 else 1) + differing xs ys
 unfoldable pub changed_regs : Regs → Regs → ℕ
 changed_regs r q = differing (spelled r) (spelled q)
 
--- whether a place is among some
-unfoldable pub among : ℕ → List ℕ → Bool
-among a [] = false
-among a (p ∷ ps) = (p == a) || among a ps
-
 -- The storage T is S but for some places, and the registers q are r but for n words.
 pub record ChangesAt (S T : List ℕ) (r q : Regs) (ps : List ℕ) (n : ℕ) : Type 0 where
-  pub elsewhere : (a : ℕ) → among a ps ≡ false → slice_index T a ≡ slice_index S a
+  pub elsewhere : (a : ℕ) → has a ps ≡ false → slice_index T a ≡ slice_index S a
   pub regs : changed_regs r q ≤ n
 
 -- a way that opens bare page g
@@ -46,7 +42,7 @@ ChangesFew S F r (Done T q) =
     × (n : ℕ)
     × ChangesAt S T r q ps n
     × (length ps + n ≤ 6)
-    × ((a : ℕ) → among a ps ≡ true → opens_for_writing F (a / 1024) ≡ true)
+    × ((a : ℕ) → has a ps ≡ true → opens_for_writing F (a / 1024) ≡ true)
 
 abbrev pub FewLaw : Type 0
 FewLaw = (S : List ℕ) (F : List Slot) (hart : ℕ) (r : Regs) → ChangesFew S F r (act_of S F hart r)

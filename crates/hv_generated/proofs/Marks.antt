@@ -3,7 +3,8 @@ use Rattle.std.proofs.Common.{◌≡◌, ℕ, zero, suc, ◌+◌, ◌*◌, ◌<�
 use Rattle.std.specs.List.{range_with_len}
 use Rattle.std.proofs.lemmas.Bool.{ne_eqb}
 use Rattle.std.proofs.lemmas.List.{get_or-set_other}
-use Rattle.hv_map.specs.Apart.{are_distinct, has}
+use Rattle.hv_word.specs.Words.{has}
+use Rattle.hv_map.specs.Apart.{are_distinct}
 use Rattle.hv_load.specs.Making.{all_free, can_take}
 use Rattle.hv_load.specs.Pages.{free_at, is_free, marked, page_at}
 

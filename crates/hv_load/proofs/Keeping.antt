@@ -14,13 +14,13 @@ use Rattle.hv_job.specs.declared.job.Job.{Job}
 use Rattle.hv_line.specs.declared.types.Directive.{Directive}
 use Rattle.hv_line.specs.declared.types.Directive.TheVariants as directive
 use Rattle.hv_job.specs.declared.job.Placed.{Placed}
-use Rattle.hv_map.specs.Chain.{map_along, map_of, pin_of}
+use Rattle.hv_map.specs.Chain.{map_along, map_of, pin_of, IsThere}
 use Rattle.hv_limits.specs.Limits.{depth_limit, pages_limit}
 use Rattle.hv_map.specs.Item.{Item}
 use Rattle.hv_store.specs.Zeros.{zeros}
 use Rattle.std.specs.Option.{option_map}
 use Rattle.hv_load.specs.declared.start.Start.{Start}
-use Rattle.hv_load.specs.Ready.{EachWatched, IsReady, IsThere}
+use Rattle.hv_load.specs.Ready.{EachWatched, IsReady}
 use Rattle.hv_samples.specs.declared.choice.Sample.{Sample}
 use Rattle.hv_load.specs.declared.ends.BuildEnd.{BuildEnd}
 use Rattle.hv_load.specs.declared.ends.BuildKind.{BuildKind}

@@ -1,17 +1,10 @@
 -- What always holds of the start of a job.
-use Rattle.std.specs.Prelude.{◌≡◌, ℕ, ◌*◌, ◌<◌, ◌≤◌, List, [], ◌∷◌, length, All, Option, Some, None}
-use Rattle.hv_limits.specs.Limits.{pages_limit}
+use Rattle.std.specs.Prelude.{◌≡◌, ℕ, ◌*◌, ◌<◌, ◌≤◌, List, [], ◌∷◌, length, All}
 use Rattle.hv_line.specs.JobLimits.{job_dumps, job_watches}
 use Rattle.hv_job.specs.declared.job.Job.{Job}
-use Rattle.hv_map.specs.Item.{Item}
-use Rattle.hv_map.specs.Chain.{map_along, pin_of}
+use Rattle.hv_map.specs.Chain.{IsThere, pin_of}
 use Rattle.hv_map.specs.declared.path.Watch.{Watch}
 use Rattle.hv_load.specs.declared.start.Start.{Start}
-
--- a machine that is there has at most as many pages as the storage can have
-abbrev pub IsThere : List ℕ → Option (List Item) → Type 0
-IsThere S None = ⊥
-IsThere S (Some items) = length (map_along S items) ≤ pages_limit
 
 -- the hart of a watch is there and its machine is, and this is the bare machine only where there is one hart
 pub record IsWatched (S : List ℕ) (harts : ℕ) (w : Watch) : Type 0 where

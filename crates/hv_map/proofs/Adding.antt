@@ -2,7 +2,7 @@
 use Rattle.std.proofs.Common.{◌≡◌, ℕ, inl, inr, Bool, true, false, ◌||◌, cond, ◌==◌, List, [], ◌∷◌, ◌++◌, length, refl, ap, ◌∙◌, sym}
 use Rattle.std.proofs.lemmas.Bool.Decides.{eqb_tells}
 use Rattle.std.proofs.lemmas.List.Folds.{list_any-append}
-use Rattle.hv_map.specs.Apart.{has}
+use Rattle.hv_word.specs.Words.{has}
 use Rattle.hv_map.specs.Held.{Lists}
 use Rattle.hv_map.specs.Gathered.{Listed, listed_limit, with_page, with_pages}
 

@@ -11,7 +11,7 @@ use Rattle.hv_store.specs.declared.access.Slot.{Slot}
 use Rattle.hv_store.specs.Access.{identity}
 use Rattle.hv_block.specs.Block.{Contents, block_of, regs_at}
 use Rattle.hv_block.proofs.Blocks.{block_sized}
-use Rattle.hv_map.specs.Apart.{has}
+use Rattle.hv_word.specs.Words.{has}
 use Rattle.hv_map.specs.Chain.{map_along, child_with, child_through, child_at, child_of, machines, pin_of, child_next, run_on, running, running_path}
 use Rattle.hv_map.specs.Compose.{compose}
 use Rattle.hv_map.specs.Held.{Lists, SamePage, SamePages, SaysItem, SaysItems, SameNexts, IsPlaced, Placed, Nexts, IsPin, IsHeld, IsRight}

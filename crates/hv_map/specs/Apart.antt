@@ -1,7 +1,8 @@
 -- Which bare pages a machine stands on, and whether they are all different.
 use Rattle.std.specs.Prelude.{ℕ, ◌+◌, ◌*◌, ◌/◌, Bool, true, not, ◌&&◌, ◌==◌, if◌then◌else◌, List, [], ◌∷◌}
 use Rattle.std.specs.Prelude.{◌++◌, map, Option, Some, None}
-use Rattle.std.specs.List.{range_with_len, flat_map, list_any}
+use Rattle.std.specs.List.{range_with_len, flat_map}
+use Rattle.hv_word.specs.Words.{has}
 use Rattle.hv_word.specs.Storage.{page_count}
 use Rattle.hv_store.specs.declared.access.Slot.{Slot}
 use Rattle.hv_store.specs.declared.access.Way.{Way}
@@ -10,10 +11,6 @@ use Rattle.hv_store.specs.Access.{identity}
 use Rattle.hv_map.specs.Item.{Item}
 use Rattle.hv_map.specs.Compose.{Looked, Named, Stopped, compose, reading, table_of}
 use Rattle.hv_map.specs.Chain.{map_along}
-
--- whether a number is in a list
-abbrev pub has : ℕ → List ℕ → Bool
-has a bs = list_any (λ b. a == b) bs
 
 -- whether no number stands twice in a list
 unfoldable pub are_distinct : List ℕ → Bool

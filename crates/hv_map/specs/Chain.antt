@@ -1,8 +1,8 @@
 -- Paths of machines inside machines, and their maps. A path is a list of numbers, from the outside in: each is the page
 -- on which the parent has the child's control block. The machine at the end of a path of length j is at level j.
-use Rattle.std.specs.Prelude.{ℕ, zero, suc, ◌+◌, List, [], ◌∷◌, Option, Some, None, slice_get}
+use Rattle.std.specs.Prelude.{ℕ, zero, suc, ◌+◌, ◌≤◌, List, [], ◌∷◌, length, Option, Some, None, slice_get}
 use Rattle.std.specs.Option.{option_map, option_and_then}
-use Rattle.hv_limits.specs.Limits.{depth_limit}
+use Rattle.hv_limits.specs.Limits.{depth_limit, pages_limit}
 use Rattle.hv_word.specs.Storage.{page_count}
 use Rattle.hv_cpu.specs.Regs.{Regs}
 use Rattle.hv_store.specs.declared.access.Slot.{Slot}
@@ -56,6 +56,11 @@ machines S F j (s ∷ path) =
 -- the machines on a path from the bare machine on
 unfoldable pub pin_of : List ℕ → List ℕ → Option (List Item)
 pin_of S path = machines S (identity (page_count S)) 0 path
+
+-- the machines on a path are there, and the last of them has at most as many pages as a storage can have
+abbrev pub IsThere : List ℕ → Option (List Item) → Type 0
+IsThere S None = ⊥
+IsThere S (Some items) = length (map_along S items) ≤ pages_limit
 
 -- the map of the machine at the end of a path, if there is one
 abbrev pub map_of : List ℕ → List ℕ → Option (List Slot)

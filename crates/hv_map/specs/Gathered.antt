@@ -3,13 +3,12 @@
 use Rattle.std.specs.Prelude.{ℕ, ◌+◌, Bool, true, false, ◌==◌, if◌then◌else◌, List, [], ◌∷◌, ◌++◌, map, length, take}
 use Rattle.std.specs.Prelude.{Option, Some, None, slice_get}
 use Rattle.std.specs.List.{range_with_len}
-use Rattle.hv_word.specs.Words.{field_of}
+use Rattle.hv_word.specs.Words.{field_of, has}
 use Rattle.hv_word.specs.Storage.{page_count}
 use Rattle.hv_store.specs.declared.access.Slot.{Slot}
 use Rattle.hv_store.specs.declared.access.Way.{Way}
 use Rattle.hv_store.specs.declared.access.Way.TheVariants.{Open, Shut}
 use Rattle.hv_store.specs.Access.{open_at}
-use Rattle.hv_map.specs.Apart.{has}
 use Rattle.hv_map.specs.Item.{Item}
 use Rattle.hv_map.specs.Compose.{Looked, Named, Stopped, compose_slot, entry_of, reading, table_of}
 

@@ -8,7 +8,7 @@ use Rattle.hv_cpu.specs.Regs.{Regs}
 use Rattle.hv_store.specs.declared.access.Slot.{Slot}
 use Rattle.hv_store.specs.declared.access.Way.TheVariants.{Open}
 use Rattle.hv_block.specs.Block.{block_of, regs_at}
-use Rattle.hv_map.specs.Apart.{has}
+use Rattle.hv_word.specs.Words.{has}
 use Rattle.hv_map.specs.Chain.{child_with, map_along, map_of, pin_of, running_path}
 use Rattle.hv_map.specs.Item.{Item}
 use Rattle.hv_map.specs.Gathered.{Gathered, Listed, bare_gathered_map, gathered_along, gathered_map, pin_pages}

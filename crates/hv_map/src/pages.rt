@@ -1,7 +1,7 @@
 //! Lists of bare pages, each at most once.
 
 ghost use Rattle.std.specs.Prelude.{◌≡◌};
-ghost use Rattle.hv_map.specs.Apart.{has};
+ghost use Rattle.hv_word.specs.Words.{has};
 ghost use Rattle.hv_map.specs.Gathered.{no_pages, with_page};
 
 use std::marker::Model;

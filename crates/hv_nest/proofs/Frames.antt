@@ -15,7 +15,8 @@ use Rattle.hv_store.specs.declared.access.Way.{Way}
 use Rattle.hv_store.specs.declared.access.Way.TheVariants.{Open, Shut}
 use Rattle.hv_store.specs.Access.{identity}
 use Rattle.hv_exec.specs.Act.{Acted, Done, Refused, act_of}
-use Rattle.hv_exec.specs.Changes.{among, opens_for_writing, ChangesFew}
+use Rattle.hv_word.specs.Words.{has}
+use Rattle.hv_exec.specs.Changes.{opens_for_writing, ChangesFew}
 use Rattle.hv_exec.proofs.Few.{few_act, may_write}
 use Rattle.hv_block.specs.Block.{Contents, regs_at, block_of, put_regs, with_fault, access_word}
 use Rattle.hv_block.proofs.Blocks.{block_holds}
@@ -127,9 +128,9 @@ framed_acted S F h r items = by (act_of S F h r) (few_act S F h r)
   where
     by : (A : Acted) → ChangesFew S F r A → FramedStep S F items (act_step A)
     by (Refused e) f = tt
-    by (Done T q) f = λ a ne. at a ne (among a f.0) refl
+    by (Done T q) f = λ a ne. at a ne (has a f.0) refl
       where
-        at : (a : ℕ) → get_or S a 0 ≢ get_or T a 0 → (t : Bool) → among a f.0 ≡ t → (opens_for_writing F (a / 1024) || is_kept_of items a) ≡ true
+        at : (a : ℕ) → get_or S a 0 ≢ get_or T a 0 → (t : Bool) → has a f.0 ≡ t → (opens_for_writing F (a / 1024) || is_kept_of items a) ≡ true
         at a ne true p = or_left (opens_for_writing F (a / 1024)) (is_kept_of items a) (f.4 a p)
         at a ne false p = absurd (ne (sym (f.2.elsewhere a p)))
 

@@ -7,7 +7,7 @@ use Rattle.std.proofs.lemmas.List.{set-set, set_comm, set-get_or, drop_all}
 use Rattle.std.proofs.lemmas.Bool.{and_parts, ne_eqb, eqb-false, not-true, lt-ltb, ltb-true}
 use Rattle.std.proofs.lemmas.List.Folds.{list_any-append}
 use Rattle.hv_nest.specs.declared.notes.Note.{Note}
-use Rattle.hv_exec.specs.Changes.{among}
+use Rattle.hv_word.specs.Words.{has}
 use Rattle.hv_nest.specs.Notes.{undone, is_noted, is_exact}
 
 true-false : true ≡ false → ⊥
@@ -145,35 +145,35 @@ undone_end T notes a i h = ap (λ (xs : List Note). get_or (undone T xs) a 0) (d
 -- the places without one of them
 without : ℕ → List ℕ → List ℕ
 without a [] = []
-without a (p ∷ ps) = cond (p == a) ps (p ∷ without a ps)
+without a (p ∷ ps) = cond (a == p) ps (p ∷ without a ps)
 
-length-without : (a : ℕ) (ps : List ℕ) → among a ps ≡ true → suc (length (without a ps)) ≡ length ps
-unfolding among without
+length-without : (a : ℕ) (ps : List ℕ) → has a ps ≡ true → suc (length (without a ps)) ≡ length ps
+unfolding without
 length-without a [] e = absurd (false-true e)
-length-without a (p ∷ ps) e = by (length-without a ps) (p == a) e
+length-without a (p ∷ ps) e = by (length-without a ps) (a == p) e
   where
-    by : (among a ps ≡ true → suc (length (without a ps)) ≡ length ps) → (t : Bool) → (t || among a ps) ≡ true → suc (length (cond t ps (p ∷ without a ps))) ≡ suc (length ps)
+    by : (has a ps ≡ true → suc (length (without a ps)) ≡ length ps) → (t : Bool) → (t || has a ps) ≡ true → suc (length (cond t ps (p ∷ without a ps))) ≡ suc (length ps)
     by rest true w = refl
     by rest false w = ap suc (rest w)
 
-among-without : (a b : ℕ) (ps : List ℕ) → a ≢ b → among b (without a ps) ≡ false → among b ps ≡ false
-unfolding among without
-among-without a b [] ne e = refl
-among-without a b (p ∷ ps) ne e = by (among-without a b ps ne) (p == a) refl e
+has-without : (a b : ℕ) (ps : List ℕ) → a ≢ b → has b (without a ps) ≡ false → has b ps ≡ false
+unfolding without
+has-without a b [] ne e = refl
+has-without a b (p ∷ ps) ne e = by (has-without a b ps ne) (a == p) refl e
   where
-    by : (among b (without a ps) ≡ false → among b ps ≡ false) → (t : Bool) → (p == a) ≡ t → among b (cond t ps (p ∷ without a ps)) ≡ false → ((p == b) || among b ps) ≡ false
+    by : (has b (without a ps) ≡ false → has b ps ≡ false) → (t : Bool) → (a == p) ≡ t → has b (cond t ps (p ∷ without a ps)) ≡ false → ((b == p) || has b ps) ≡ false
     by rest true q w =
-        ap (λ t. t || among b ps) (ne_eqb p b (λ z. ne (sym (eqb-true p a q) ∙ z))) ∙ w
+        ap (λ t. t || has b ps) (ne_eqb b p (λ z. ne (eqb-true a p q ∙ sym z))) ∙ w
     by rest false q w =
-        let parts = or_parts (p == b) (among b (without a ps)) w in
-        ap (λ t. t || among b ps) parts.0 ∙ rest parts.1
+        let parts = or_parts (b == p) (has b (without a ps)) w in
+        ap (λ t. t || has b ps) parts.0 ∙ rest parts.1
       where
         or_parts : (s t : Bool) → (s || t) ≡ false → (s ≡ false) × (t ≡ false)
         or_parts true t z = absurd (true-false z)
         or_parts false t z = (refl, z)
 
 -- exact notes are of different places, so there are at most as many as places where the storage may differ
-pub few_notes : (T : List ℕ) (notes : List Note) (ps : List ℕ) → is_exact T notes ≡ true → ((a : ℕ) → among a ps ≡ false → get_or T a 0 ≡ get_or (undone T notes) a 0) → length notes ≤ length ps
+pub few_notes : (T : List ℕ) (notes : List Note) (ps : List ℕ) → is_exact T notes ≡ true → ((a : ℕ) → has a ps ≡ false → get_or T a 0 ≡ get_or (undone T notes) a 0) → length notes ≤ length ps
 unfolding is_exact undone
 few_notes T [] ps e f = omega arith
 few_notes T (n ∷ notes) ps e f =
@@ -183,7 +183,7 @@ few_notes T (n ∷ notes) ps e f =
     let inside : n.at < length (undone T notes) = omega (arith, ltb-true n.at (length T) in_range.0, length-undone T notes) in
     let back : get_or (set (undone T notes) n.at n.before) n.at 0 ≡ n.before = get_or-set_same (undone T notes) n.at n.before 0 inside in
     let differs : n.before ≢ get_or T n.at 0 = eqb-false n.before (get_or T n.at 0) (not-true (n.before == get_or T n.at 0) now.0) in
-    let here : among n.at ps ≡ true = is_there (among n.at ps) (λ z. differs (sym (f n.at z ∙ back))) in
+    let here : has n.at ps ≡ true = is_there (has n.at ps) (λ z. differs (sym (f n.at z ∙ back))) in
     let rest : length notes ≤ length (without n.at ps) =
     few_notes T notes (without n.at ps) tail.1 (λ a z. other a z (not-true (is_noted n.at notes) tail.0)) in
     let shorter : suc (length (without n.at ps)) ≡ length ps = length-without n.at ps here in
@@ -193,13 +193,13 @@ few_notes T (n ∷ notes) ps e f =
     is_there true z = refl
     is_there false z = absurd (z refl)
 
-    other : (a : ℕ) → among a (without n.at ps) ≡ false → is_noted n.at notes ≡ false → get_or T a 0 ≡ get_or (undone T notes) a 0
+    other : (a : ℕ) → has a (without n.at ps) ≡ false → is_noted n.at notes ≡ false → get_or T a 0 ≡ get_or (undone T notes) a 0
     other a z free = by (n.at == a) refl
       where
         by : (t : Bool) → (n.at == a) ≡ t → get_or T a 0 ≡ get_or (undone T notes) a 0
         by true q = ap (λ (k : ℕ). get_or T k 0) (sym (eqb-true n.at a q)) ∙ sym (undone_at T notes n.at free) ∙ ap (λ (k : ℕ). get_or (undone T notes) k 0) (eqb-true n.at a q)
         by false q =
             let ne : n.at ≢ a = eqb-false n.at a q in
-            f a (among-without n.at a ps ne z) ∙ get_or-set_other (undone T notes) n.at a n.before 0 (λ w. ne (sym w))
+            f a (has-without n.at a ps ne z) ∙ get_or-set_other (undone T notes) n.at a n.before 0 (λ w. ne (sym w))
 
 pub ruleset undoing = (put_new, put_noted, put_same, undone_at, exact_more, noted_apart, undone_here, undone_later, undone_end)

@@ -1,7 +1,7 @@
 -- A watch names a hart and a machine by its path. What counts for it, and what may not be changed by others, is fixed
 -- by the state at the start and by the moves.
-use Rattle.std.specs.Prelude.{ℕ, ◌+◌, ◌*◌, ◌%◌, Bool, true, false, not, ◌&&◌, ◌==◌, nat_lt, if◌then◌else◌, List, [], ◌∷◌, ◌++◌, map, length, Option, Some, None, slice_get, slice_index}
-use Rattle.std.specs.List.{range_with_len, flat_map}
+use Rattle.std.specs.Prelude.{ℕ, ◌+◌, ◌*◌, ◌%◌, Bool, true, false, not, ◌&&◌, ◌==◌, nat_eq, nat_lt, if◌then◌else◌, List, [], ◌∷◌, ◌++◌, map, length, Option, Some, None, slice_get, slice_index}
+use Rattle.std.specs.List.{range_with_len, flat_map, starts_with}
 use Rattle.hv_word.specs.Storage.{page_count, word_at}
 use Rattle.hv_cpu.specs.Regs.{Regs}
 use Rattle.hv_cpu.specs.Lines.{lines, unlined}
@@ -19,9 +19,7 @@ use Rattle.hv_nest.specs.Move.{Move, StepOf, LinesOf, moved_of, running_of, stat
 
 -- the path p begins q
 abbrev pub begins : List ℕ → List ℕ → Bool
-begins [] q = true
-begins (s ∷ p) [] = false
-begins (s ∷ p) (t ∷ q) = (s == t) && begins p q
+begins p q = starts_with nat_eq q p
 
 -- a recall or fault that was received at a level below k
 abbrev pub is_outside : ℕ → StepKind → Bool

@@ -3,12 +3,12 @@ use Rattle.std.specs.Prelude.{ℕ, ◌&&◌, not, Bool, nat_le, if◌then◌else
 use Rattle.std.specs.Prelude.{codes}
 use Rattle.std.specs.List.{flat_map}
 use Rattle.std.specs.Option.{option_map}
-use Rattle.hv_cpu.specs.Regs.{Regs, spelled, reset_regs}
+use Rattle.hv_cpu.specs.Regs.{Regs, spelled}
 use Rattle.hv_block.specs.Block.{regs_at}
 use Rattle.hv_store.specs.declared.access.Slot.{Slot}
 use Rattle.hv_map.specs.Chain.{map_of}
 use Rattle.hv_map.specs.Seen.{seen}
-use Rattle.hv_nest.specs.State.{State}
+use Rattle.hv_nest.specs.State.{State, hart_regs}
 use Rattle.hv_nest.specs.Bare.{bare_of}
 use Rattle.hv_run.specs.Record.{PlayRecord, WatchRecord}
 use Rattle.hv_limits.specs.Limits.{kept_limit}
@@ -20,10 +20,6 @@ use Rattle.hv_report.specs.Report.{machine_words, watch_line}
 -- other machine touched it, and all changes of its lines are kept.
 abbrev pub has_twin : WatchRecord → Bool
 has_twin w = (w.one && w.apart) && (not w.touched && nat_le w.line_total kept_limit)
-
-abbrev pub hart_regs : Option Regs → Regs
-hart_regs None = reset_regs
-hart_regs (Some r) = r
 
 -- the registers of a watched machine: in the bare page where its block stands, or of the hart
 abbrev pub watched_regs : State → ℕ → Option ℕ → Regs

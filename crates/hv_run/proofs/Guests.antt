@@ -7,11 +7,11 @@ use Rattle.hv_map.specs.Item.{Item}
 use Rattle.hv_map.specs.Chain.{map_along, pin_of}
 use Rattle.hv_map.specs.Apart.{is_apart}
 use Rattle.hv_map.specs.Seen.{seen}
-use Rattle.hv_nest.specs.State.{State}
+use Rattle.hv_nest.specs.State.{State, hart_regs}
 use Rattle.hv_nest.specs.Move.{Move, last_of}
 use Rattle.hv_nest.specs.Watched.{Tally, no_tally, tally_of, foot, last_block}
 use Rattle.hv_nest.specs.Bare.{bare_of}
-use Rattle.hv_whole.specs.Whole.{own, regs_of, hart_regs, AreMasked}
+use Rattle.hv_whole.specs.Whole.{own, regs_of, AreMasked}
 use Rattle.hv_whole.proofs.Readings.{regs_last}
 use Rattle.hv_whole.proofs.WholeRuns.{whole_runs, on_path, root_path}
 use Rattle.hv_whole.proofs.Roots.{root_run, root_sees}

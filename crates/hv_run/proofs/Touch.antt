@@ -3,7 +3,7 @@ use Rattle.std.proofs.Common.{◌≡◌, ◌≢◌, ℕ, zero, suc, ◌+◌, ◌
 use Rattle.std.specs.List.{range_with_len, flat_map}
 use Rattle.std.proofs.lemmas.List.{get_or_past}
 use Rattle.std.proofs.lemmas.Bool.{false≢true, eqb-true, cases_Bool, cases_lt}
-use Rattle.hv_map.specs.Apart.{has}
+use Rattle.hv_word.specs.Words.{has}
 use Rattle.hv_nest.specs.declared.changed.ChangedRow.{ChangedRow}
 use Rattle.hv_nest.specs.Changes.{difference_at, differences, differences_to}
 use Rattle.hv_nest.specs.Watched.{are_same}

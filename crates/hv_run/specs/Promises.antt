@@ -14,17 +14,17 @@ use Rattle.hv_nest.specs.declared.outcome.StepKind.TheVariants.{Worked as Worked
 use Rattle.hv_nest.specs.State.{State}
 use Rattle.hv_nest.specs.Move.{Move, StepOf, moved_of, last_of}
 use Rattle.hv_nest.specs.Routing.{regs_along, hart_along, is_calm, IsRouted}
-use Rattle.hv_nest.specs.Watched.{Tally, no_tally, tally_of, foot, last_block}
+use Rattle.hv_nest.specs.Watched.{Tally, last_block}
 use Rattle.hv_nest.specs.Bare.{bare_of}
 use Rattle.hv_whole.specs.Whole.{own, AreMasked}
-use Rattle.hv_run.specs.Record.{FaultRecord, WatchOf, all_faults}
+use Rattle.hv_run.specs.Record.{FaultRecord, WatchOf, all_faults, tally_over}
 use Rattle.hv_run.specs.Play.{Played}
 use Rattle.hv_run.specs.Run.{state_at, steps_in, StaysInside}
 use Rattle.hv_run.specs.Stands.{EachWatch, CanWatch, IsSized, StandsFor}
 
 -- what the watch tells up to moment k, where the items are the machines on its path at the start
 abbrev pub tally_at : State → List Move → WatchOf → List Item → ℕ → Tally
-tally_at start moves w items k = tally_of w.hart w.path items (foot start.storage items) start (take k moves) no_tally
+tally_at start moves w items k = tally_over start (take k moves) w items
 
 -- whether another machine has changed by then what the watched one stands on
 abbrev pub is_touched_by : State → List Move → WatchOf → List Item → ℕ → Bool

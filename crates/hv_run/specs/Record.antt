@@ -98,11 +98,15 @@ watch_record w start items t = record {
   lines = take kept_limit t.changes;
 }
 
+-- the tally of a watch over all moves from the start, where these are the machines on its path
+abbrev pub tally_over : State → List Move → WatchOf → List Item → Tally
+tally_over start moves w items = tally_of w.hart w.path items (foot start.storage items) start moves no_tally
+
 -- where the machine is there at the start, which it is for each watch
 abbrev pub watch_records : WatchOf → State → List Move → Option (List Item) → List WatchRecord
 watch_records w start moves None = []
 watch_records w start moves (Some items) =
-    watch_record w start items (tally_of w.hart w.path items (foot start.storage items) start moves no_tally) ∷ []
+    watch_record w start items (tally_over start moves w items) ∷ []
 
 -- all that is told of a play
 pub record PlayRecord : Type 0 where

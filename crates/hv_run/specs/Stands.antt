@@ -2,8 +2,8 @@
 use Rattle.std.specs.Prelude.{◌≡◌, ℕ, ◌*◌, ◌<◌, ◌≤◌, List, [], ◌∷◌, ◌++◌, length, map, Option, Some, None}
 use Rattle.hv_word.specs.Storage.{page_count}
 use Rattle.hv_map.specs.Item.{Item}
-use Rattle.hv_map.specs.Chain.{map_along, pin_of}
-use Rattle.hv_limits.specs.Limits.{depth_limit, pages_limit}
+use Rattle.hv_map.specs.Chain.{IsThere, pin_of}
+use Rattle.hv_limits.specs.Limits.{depth_limit}
 use Rattle.hv_map.specs.declared.path.Watch.{Watch}
 use Rattle.hv_nest.specs.State.{State}
 use Rattle.hv_nest.specs.Move.{Move, last_of}
@@ -26,15 +26,11 @@ abbrev pub EachWatch : (WatchOf → Type 0) → List WatchOf → Type 0
 EachWatch P [] = Unit {0}
 EachWatch P (w ∷ ws) = P w × EachWatch P ws
 
-abbrev pub IsPinned : List ℕ → Option (List Item) → Type 0
-IsPinned S None = ⊥
-IsPinned S (Some items) = length (map_along S items) ≤ pages_limit
-
 -- What may be watched from a start on: a machine that is there, with no more pages than a storage can have, and a hart
 -- that is there; the bare machine only where it has one hart.
 pub record IsWatchable (start : State) (w : WatchOf) : Type 0 where
   pub hart : w.hart < length start.harts
-  pub machine : IsPinned start.storage (pin_of start.storage w.path)
+  pub machine : IsThere start.storage (pin_of start.storage w.path)
   pub bare : w.path ≡ [] → length start.harts ≡ 1
 
 abbrev pub CanWatch : State → List WatchOf → Type 0

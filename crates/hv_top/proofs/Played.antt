@@ -5,7 +5,7 @@ use Rattle.std.specs.List.{All}
 use Rattle.std.proofs.lemmas.List.Elements.{All-nil, All-cons, All-append}
 use Rattle.hv_word.specs.Storage.{page_count}
 use Rattle.hv_map.specs.Item.{Item}
-use Rattle.hv_map.specs.Chain.{pin_of}
+use Rattle.hv_map.specs.Chain.{pin_of, IsThere}
 use Rattle.hv_map.proofs.Machines.{pinned_own, pinned_fits}
 use Rattle.hv_nest.specs.State.{State}
 use Rattle.hv_nest.specs.Move.{Move, last_of}
@@ -13,7 +13,7 @@ use Rattle.hv_nest.specs.Watched.{no_tally, tally_of, foot, last_block}
 use Rattle.hv_whole.proofs.Roots.{run_long}
 use Rattle.hv_run.proofs.Runs.{run_harts}
 use Rattle.hv_run.specs.Record.{WatchOf, watch_record, watch_records, record_of}
-use Rattle.hv_run.specs.Stands.{EachWatch, IsPinned, IsWatchable, CanWatch}
+use Rattle.hv_run.specs.Stands.{EachWatch, IsWatchable, CanWatch}
 use Rattle.hv_report.specs.Report.{IsInState, AreInState}
 
 -- the block of the last machine lies in the storage
@@ -32,7 +32,7 @@ module _ (start : State) (moves : List Move) where
   there_one : (w : WatchOf) → IsWatchable start w → All (IsInState (last_of start moves)) (watch_records w start moves (pin_of start.storage w.path))
   there_one w can = at (pin_of start.storage w.path) refl can.machine
     where
-      at : (o : Option (List Item)) → pin_of start.storage w.path ≡ o → IsPinned start.storage o → All (IsInState (last_of start moves)) (watch_records w start moves o)
+      at : (o : Option (List Item)) → pin_of start.storage w.path ≡ o → IsThere start.storage o → All (IsInState (last_of start moves)) (watch_records w start moves o)
       at None is h = absurd h
       at (Some items) is h =
           All-cons (IsInState (last_of start moves)) (watch_record w start items (tally_of w.hart w.path items (foot start.storage items) start moves no_tally)) []

@@ -13,15 +13,15 @@ use Rattle.hv_nest.specs.State.{State}
 use Rattle.hv_nest.specs.Move.{Move, last_of}
 use Rattle.hv_nest.specs.Watched.{LineChange, Tally, last_block}
 use Rattle.hv_nest.specs.Bare.{bare_of}
-use Rattle.hv_whole.specs.Whole.{own, regs_of, hart_regs as whole_regs}
+use Rattle.hv_whole.specs.Whole.{own, regs_of}
 use Rattle.hv_whole.proofs.Readings.{regs_last}
 use Rattle.hv_report.specs.Report.{machine_words, words_of}
-use Rattle.hv_report.specs.Check.{hart_regs, watched_regs, bare_words, checked_text}
+use Rattle.hv_report.specs.Check.{watched_regs, bare_words, checked_text}
 use Rattle.hv_run.specs.Promises.{AreBareRuns, HasRegisters, IsAsBare, IsBareRun, twin_after}
-use Rattle.hv_run.specs.Record.{WatchOf, watch_record}
+use Rattle.hv_run.specs.Record.{WatchOf, watch_record, tally_over}
 use Rattle.hv_limits.specs.Limits.{kept_limit}
 use Rattle.hv_run.proofs.Guests.{at_last}
-use Rattle.hv_top.specs.Shown.{IsShownBy, IsShown, AreShown, tally_over}
+use Rattle.hv_top.specs.Shown.{IsShownBy, IsShown, AreShown}
 
 -- the words of registers
 words_by : (last : State) (h : ℕ) (o : Option ℕ) (r : Regs)
@@ -34,11 +34,7 @@ words_by last h (Some g) r is = ap spelled is
 begun : (S : List ℕ) (hs : List Regs) (h : ℕ) (items : List Item) (o : Option ℕ)
     → last_block items ≡ o
     → watched_regs (record { storage = S; harts = hs }) h o ≡ own h items (record { storage = S; harts = hs })
-begun S hs h [] None e = at (slice_get hs h)
-  where
-    at : (o : Option Regs) → hart_regs o ≡ whole_regs o
-    at None = refl
-    at (Some r) = refl
+begun S hs h [] None e = refl
 begun S hs h [] (Some g) e = cc
 begun S hs h (x ∷ xs) None e = absurd (some x xs e)
   where

@@ -1,22 +1,16 @@
 -- What a play needs of a start that a job is built to.
-use Rattle.std.proofs.Common.{◌≡◌, ℕ, Option, Some, None, List, [], ◌∷◌, length}
+use Rattle.std.proofs.Common.{◌≡◌, ℕ, List, [], ◌∷◌, length}
 use Rattle.std.specs.List.{All}
 use Rattle.hv_cpu.specs.Regs.{Regs}
-use Rattle.hv_map.specs.Item.{Item}
-use Rattle.hv_map.specs.Chain.{pin_of}
 use Rattle.hv_map.specs.declared.path.Watch.{Watch}
 use Rattle.hv_nest.specs.Kinds.{NextBelow}
-use Rattle.hv_run.specs.Stands.{CanWatch, IsPinned, watches_of}
-use Rattle.hv_load.specs.Ready.{EachWatched, IsThere}
-
-pins : (S : List ℕ) (o : Option (List Item)) → IsThere S o → IsPinned S o
-pins S None h = h
-pins S (Some items) h = h
+use Rattle.hv_run.specs.Stands.{CanWatch, watches_of}
+use Rattle.hv_load.specs.Ready.{EachWatched}
 
 pub watchable : (S : List ℕ) (hs : List Regs) (ws : List Watch) → EachWatched S (length hs) ws → CanWatch (record { storage = S; harts = hs }) (watches_of ws)
 watchable S hs [] each = tt
 watchable S hs (w ∷ ws) each = (
-  record { hart = each.0.hart; machine = pins S (pin_of S w.path) each.0.machine; bare = each.0.bare },
+  record { hart = each.0.hart; machine = each.0.machine; bare = each.0.bare },
   watchable S hs ws each.1,
 )
 

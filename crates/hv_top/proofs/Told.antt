@@ -8,14 +8,14 @@ use Rattle.hv_irq.specs.declared.Event.{Event}
 use Rattle.hv_irq.specs.declared.Event.TheVariants.{Turn, Lines}
 use Rattle.hv_irq.specs.Events.{steps_of, total_of}
 use Rattle.hv_map.specs.Item.{Item}
-use Rattle.hv_map.specs.Chain.{pin_of}
+use Rattle.hv_map.specs.Chain.{pin_of, IsThere}
 use Rattle.hv_nest.specs.State.{State}
 use Rattle.hv_nest.specs.Move.{Move, StepOf, LinesOf, state_after}
 use Rattle.hv_nest.specs.Watched.{Tally, no_tally, is_counted, beside, tally_after, tally_of, foot, last_block}
 use Rattle.hv_run.specs.Record.{WatchOf, schedule, watch_record, watch_records, record_of}
 use Rattle.hv_limits.specs.Limits.{kept_limit, steps_limit}
 use Rattle.hv_run.specs.Run.{steps_in}
-use Rattle.hv_run.specs.Stands.{EachWatch, IsPinned, IsWatchable, CanWatch}
+use Rattle.hv_run.specs.Stands.{EachWatch, IsWatchable, CanWatch}
 use Rattle.hv_twin.proofs.Told.{told_never_fall, told_have_lines}
 use Rattle.hv_top.specs.Check.{IsMachine, IsRow}
 
@@ -72,7 +72,7 @@ module _ (start : State) (moves : List Move) (few : steps_in moves ≤ steps_lim
   row_one : (w : WatchOf) → IsWatchable start w → All (IsRow start) (watch_records w start moves (pin_of start.storage w.path))
   row_one w can = at (pin_of start.storage w.path) refl can.machine
     where
-      at : (o : Option (List Item)) → pin_of start.storage w.path ≡ o → IsPinned start.storage o → All (IsRow start) (watch_records w start moves o)
+      at : (o : Option (List Item)) → pin_of start.storage w.path ≡ o → IsThere start.storage o → All (IsRow start) (watch_records w start moves o)
       at None is h = absurd h
       at (Some items) is h =
           let ft = foot start.storage items in

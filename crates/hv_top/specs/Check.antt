@@ -1,12 +1,12 @@
 -- A job that is built and played, and the bare machines beside its watched ones.
 use Rattle.std.specs.Prelude.{◌≡◌, ℕ, ◌<◌, ◌≤◌, All, List, [], length, Option, Some, None, Result, Ok, Err, bit_and}
-use Rattle.hv_limits.specs.Limits.{lines_mask, pages_limit, steps_limit}
+use Rattle.hv_limits.specs.Limits.{lines_mask, steps_limit}
 use Rattle.hv_job.specs.declared.job.Job.{Job}
 use Rattle.hv_load.specs.Build.{build_of}
 use Rattle.hv_load.specs.declared.ends.BuildKind.{BuildKind}
 use Rattle.hv_load.specs.declared.start.Start.{Start}
 use Rattle.hv_map.specs.Item.{Item}
-use Rattle.hv_map.specs.Chain.{map_along, pin_of}
+use Rattle.hv_map.specs.Chain.{IsThere, pin_of}
 use Rattle.hv_nest.specs.State.{State}
 use Rattle.hv_nest.specs.Watched.{last_block}
 use Rattle.hv_report.specs.Check.{check_of}
@@ -35,7 +35,7 @@ start_state job = built_state (build_of job)
 -- the machine is there, its block is in the bare page that is told, and it has no more pages than can be watched
 abbrev pub IsMachine : List ℕ → Option ℕ → Option (List Item) → Type 0
 IsMachine S block None = ⊥
-IsMachine S block (Some items) = (block ≡ last_block items) × (length (map_along S items) ≤ pages_limit)
+IsMachine S block (Some items) = (block ≡ last_block items) × IsThere S (Some items)
 
 -- what always holds of what is told of a watch
 pub record IsRow (start : State) (w : WatchRecord) : Type 0 where

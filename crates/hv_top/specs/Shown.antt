@@ -5,11 +5,11 @@ use Rattle.hv_map.specs.Chain.{pin_of}
 use Rattle.hv_map.specs.Apart.{is_one, is_apart}
 use Rattle.hv_nest.specs.State.{State}
 use Rattle.hv_nest.specs.Move.{Move, last_of}
-use Rattle.hv_nest.specs.Watched.{Tally, no_tally, tally_of, foot, last_block}
+use Rattle.hv_nest.specs.Watched.{Tally, last_block}
 use Rattle.hv_report.specs.Report.{machine_words, watch_line, watch_text}
 use Rattle.hv_report.specs.Check.{checked_watch}
 use Rattle.hv_run.specs.Promises.{twin_after}
-use Rattle.hv_run.specs.Record.{WatchOf, watch_record}
+use Rattle.hv_run.specs.Record.{WatchOf, tally_over, watch_record}
 use Rattle.hv_limits.specs.Limits.{kept_limit}
 use Rattle.hv_text.specs.Text.{line}
 use Rattle.hv_run.specs.Stands.{EachWatch}
@@ -32,10 +32,6 @@ pub record IsShownBy (start last : State) (w : WatchOf) (items : List Item) (t :
   pub run : machine_words last w.hart (last_block items) ≡ machine_words (twin_after start w items t) 0 None
   pub check : length t.changes ≤ kept_limit → text_alone start w items t ≡ text_reported start last w items t
   pub none : kept_limit < length t.changes → text_alone start w items t ≡ text_without_twin start w items t
-
--- what a watch has told at the end of these moves
-abbrev pub tally_over : State → List Move → WatchOf → List Item → Tally
-tally_over start moves w items = tally_of w.hart w.path items (foot start.storage items) start moves no_tally
 
 -- so it is for a watched machine whose pages were one-to-one and lay apart at the start, if no other machine touched it
 abbrev pub IsShown : State → List Move → WatchOf → Type 0

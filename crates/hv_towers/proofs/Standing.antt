@@ -7,7 +7,8 @@ use Rattle.hv_limits.specs.Limits.{pages_limit}
 use Rattle.hv_word.specs.Storage.{page_count}
 use Rattle.hv_store.specs.declared.access.Slot.{Slot}
 use Rattle.hv_store.specs.Access.{identity, open_at}
-use Rattle.hv_map.specs.Apart.{has, are_distinct, open_page_if, open_pages, table_pages, table_open, tables_of, tables_along, blocks_of, standing_on, is_apart}
+use Rattle.hv_word.specs.Words.{has}
+use Rattle.hv_map.specs.Apart.{are_distinct, open_page_if, open_pages, table_pages, table_open, tables_of, tables_along, blocks_of, standing_on, is_apart}
 use Rattle.hv_map.specs.Compose.{compose, reading, table_of}
 use Rattle.hv_map.specs.Chain.{map_along}
 use Rattle.hv_apart.proofs.Lists.{has-append}

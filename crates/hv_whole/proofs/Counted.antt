@@ -11,14 +11,13 @@ use Rattle.hv_map.specs.Item.{Item}
 use Rattle.hv_map.specs.Chain.{running, running_path}
 use Rattle.hv_limits.specs.Limits.{depth_limit}
 use Rattle.hv_map.specs.Words.{syllables}
-use Rattle.hv_nest.specs.State.{State}
+use Rattle.hv_nest.specs.State.{State, hart_regs}
 use Rattle.hv_nest.specs.Step.{Stepped, Worked, Recalled, Faulted, Barred, step_of, host_step_of}
 use Rattle.hv_nest.specs.Move.{StepOf, moved_by, moved_at, running_at, state_after}
 use Rattle.hv_nest.specs.Watched.{begins, is_outside, is_counted}
 use Rattle.hv_nest.specs.Bare.{alone}
 use Rattle.hv_nest.specs.Simulation.{StepLike, refused_further_out, both_work, both_recall, both_fault, both_refused, StillSees, SimulationLaw, deepened}
 use Rattle.hv_nest.specs.Routing.{regs_along, hart_along}
-use Rattle.hv_whole.specs.Whole.{hart_regs}
 use Rattle.hv_whole.specs.Linked.{Alone, Linked}
 use Rattle.hv_whole.proofs.Each.{more, more_is, deep, deep_is}
 use Rattle.hv_whole.proofs.Descend.{lifted, LowRecall, descended, at_end}

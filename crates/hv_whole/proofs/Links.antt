@@ -11,11 +11,10 @@ use Rattle.hv_map.specs.Item.{Item}
 use Rattle.hv_map.specs.Chain.{along}
 use Rattle.hv_map.specs.Words.{Chained, EachChain}
 use Rattle.hv_map.proofs.Words.{along_agrees, chained_agrees}
-use Rattle.hv_nest.specs.State.{State}
+use Rattle.hv_nest.specs.State.{State, hart_regs}
 use Rattle.hv_nest.specs.Move.{with_hart}
 use Rattle.hv_nest.specs.Simulation.{Sees, StillSees}
 use Rattle.hv_nest.specs.Routing.{regs_along}
-use Rattle.hv_whole.specs.Whole.{hart_regs}
 use Rattle.hv_whole.specs.Linked.{EachBlock, Unread, Aside, Alone, Linked}
 use Rattle.hv_whole.proofs.Each.{each_block}
 use Rattle.hv_whole.proofs.Foots.{each_both}

@@ -5,7 +5,8 @@ use Rattle.std.specs.List.{range_with_len, flat_map}
 use Rattle.std.proofs.lemmas.Bool.{and_parts, not-true, eq-eqb, eqb-true, or_left, or_right, or_cases, false≢true}
 use Rattle.std.proofs.lemmas.Bool.Decides.{eqb_tells}
 use Rattle.std.proofs.lemmas.Option.{same_Some}
-use Rattle.hv_map.specs.Apart.{has, are_distinct}
+use Rattle.hv_word.specs.Words.{has}
+use Rattle.hv_map.specs.Apart.{are_distinct}
 use Rattle.hv_nest.specs.Watched.{without, are_same}
 use Rattle.std.specs.Prelude.{slice_index}
 

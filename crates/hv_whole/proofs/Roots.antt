@@ -8,7 +8,8 @@ use Rattle.hv_word.specs.Storage.{page_count}
 use Rattle.hv_store.specs.declared.access.Slot.{Slot}
 use Rattle.hv_store.specs.Access.{identity, open_at}
 use Rattle.hv_store.proofs.Identity.{length-identity, slice_get-identity}
-use Rattle.hv_map.specs.Apart.{has, are_distinct, open_pages, tables_along, is_apart}
+use Rattle.hv_word.specs.Words.{has}
+use Rattle.hv_map.specs.Apart.{are_distinct, open_pages, tables_along, is_apart}
 use Rattle.hv_map.specs.Chain.{along, machines, map_along, pin_of}
 use Rattle.hv_map.specs.Seen.{seen}
 use Rattle.hv_map.proofs.Views.{length-seen, word_at-seen}

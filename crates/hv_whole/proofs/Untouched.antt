@@ -18,9 +18,9 @@ use Rattle.hv_nest.specs.declared.outcome.StepKind.TheVariants.{Worked as Worked
 use Rattle.hv_nest.specs.Step.{Stepped, Worked, Recalled, Faulted, Barred, host_step_of}
 use Rattle.hv_nest.specs.Move.{Move, StepOf, LinesOf, moved_by, moved_at, moved_of, lined_at, lined_state, state_after}
 use Rattle.hv_nest.specs.Routing.{regs_along}
-use Rattle.hv_nest.specs.State.{State}
+use Rattle.hv_nest.specs.State.{State, hart_regs}
 use Rattle.hv_nest.specs.Watched.{is_outside, is_counted, last_block, are_same, same_status, keeps_foot, foot, lines_at, lines_of}
-use Rattle.hv_whole.specs.Whole.{hart_regs, regs_of, own, IsMasked}
+use Rattle.hv_whole.specs.Whole.{regs_of, own, IsMasked}
 use Rattle.hv_whole.specs.Linked.{Alone, LeavesLinked}
 use Rattle.hv_whole.proofs.Lined.{relined_own, relined_other, lines_relined}
 use Rattle.hv_whole.proofs.Members.{Has, has_left, has_right, has_below, same_places}

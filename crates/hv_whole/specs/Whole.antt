@@ -1,9 +1,9 @@
 -- What holds of a watched machine over a whole run: it has the registers and the pages that a bare machine has which
 -- began with its registers and with what it saw, and made as many steps as were counted for it, with the same changes
 -- of its lines.
-use Rattle.std.specs.Prelude.{◌≡◌, ℕ, ◌<◌, ◌≤◌, ◌*◌, false, true, List, [], ◌∷◌, length, Option, Some, None, slice_get, bit_and}
+use Rattle.std.specs.Prelude.{◌≡◌, ℕ, ◌<◌, ◌≤◌, ◌*◌, false, true, List, [], ◌∷◌, length, Some, slice_get, bit_and}
 use Rattle.hv_word.specs.Storage.{page_count}
-use Rattle.hv_cpu.specs.Regs.{Regs, reset_regs}
+use Rattle.hv_cpu.specs.Regs.{Regs}
 use Rattle.hv_limits.specs.Limits.{lines_mask, depth_limit}
 use Rattle.hv_store.specs.declared.access.Slot.{Slot}
 use Rattle.hv_block.specs.Block.{regs_at}
@@ -12,15 +12,11 @@ use Rattle.hv_map.specs.Chain.{map_along, pin_of}
 use Rattle.hv_map.specs.Apart.{is_apart}
 use Rattle.hv_map.specs.Carried.{Agree}
 use Rattle.hv_map.specs.Seen.{seen}
-use Rattle.hv_nest.specs.State.{State}
+use Rattle.hv_nest.specs.State.{State, hart_regs}
 use Rattle.hv_nest.specs.Move.{Move, StepOf, LinesOf, last_of}
 use Rattle.hv_nest.specs.Routing.{regs_along}
 use Rattle.hv_nest.specs.Watched.{Tally, no_tally, tally_of, last_block, foot}
 use Rattle.hv_nest.specs.Bare.{alone, bare_of}
-
-abbrev pub hart_regs : Option Regs → Regs
-hart_regs None = reset_regs
-hart_regs (Some r) = r
 
 -- the registers of hart h
 abbrev pub regs_of : ℕ → State → Regs

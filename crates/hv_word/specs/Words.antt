@@ -1,5 +1,6 @@
 -- Words, which are numbers below 2 ^ 32 (Unprivileged ISA, chapter 2).
-use Rattle.std.specs.Prelude.{ℕ, ◌+◌, ◌-◌, ◌*◌, ◌/◌, ◌%◌, ◌^◌, ◌<◌, nat_lt, if◌then◌else◌}
+use Rattle.std.specs.Prelude.{ℕ, ◌+◌, ◌-◌, ◌*◌, ◌/◌, ◌%◌, ◌^◌, ◌<◌, ◌==◌, nat_lt, if◌then◌else◌, ℤ, pos, negsuc, Bool, List}
+use Rattle.std.specs.List.{list_any}
 use Rattle.hv_word.specs.declared.Lane.{Lane}
 use Rattle.hv_word.specs.declared.Lane.TheVariants.{Byte, Half, Word}
 
@@ -16,6 +17,14 @@ field_put w lo len v = w / 2 ^ (lo + len) * 2 ^ (lo + len) + v % 2 ^ len * 2 ^ l
 abbrev pub sext_of : ℕ → ℕ → ℕ
 sext_of bits v =
     if nat_lt (v % 2 ^ bits) (2 ^ (bits - 1)) then v % 2 ^ bits else v % 2 ^ bits + (2 ^ 32 - 2 ^ bits)
+
+-- the number that a word is in two's complement
+abbrev pub signed_of : ℕ → ℤ
+signed_of w = if nat_lt w (2 ^ 31) then pos w else negsuc (2 ^ 32 - 1 - w)
+
+-- whether a number is in a list
+abbrev pub has : ℕ → List ℕ → Bool
+has a bs = list_any (λ b. a == b) bs
 
 -- a word has four bytes and two halves
 abbrev pub IsLane : Lane → Type 0

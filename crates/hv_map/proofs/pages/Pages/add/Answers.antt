@@ -1,6 +1,6 @@
 -- The page that is added differs from those that were listed, and there was room for it.
 use Rattle.std.proofs.Common.{◌≡◌, ◌<◌, length, length-set, ap, ◌∙◌, sym, arith}
-use Rattle.hv_map.specs.Apart.{has}
+use Rattle.hv_word.specs.Words.{has}
 use Rattle.hv_map.specs.Gathered.{Listed, listed_limit}
 use Rattle.hv_map.proofs.Lists.{distinct_set}
 use Rattle.hv_map.proofs.pages.Pages.add.Goals as goal

@@ -1,4 +1,3 @@
-pub mod Begins
 pub mod Changes
 pub mod Guests
 pub mod Lists

@@ -27,9 +27,11 @@ pub record Played : Type 0 where
   pub counts : Counts
   pub watching : List Watching
 
+-- what is told so far of each watch
 abbrev pub all_so_far : List Watching → List WatchRecord
 all_so_far ws = map (λ (w : Watching). w.so_far) ws
 
+-- what is told of a play
 abbrev pub play_record : Played → PlayRecord
 play_record p = record {
   steps = p.counts.steps;
@@ -44,6 +46,7 @@ abbrev pub mip_of : Option Regs → ℕ
 mip_of None = 0
 mip_of (Some r) = r.mip
 
+-- the same word in a state
 abbrev pub status_at : ℕ → Option ℕ → State → ℕ
 status_at h None st = mip_of (slice_get st.harts h)
 status_at h (Some g) st = word_at st.storage g 42
@@ -59,6 +62,7 @@ counts_for w (Stepped hart running kind changed) =
     (hart == w.hart) && (begins w.path running && not (is_outside (length w.path) kind))
 counts_for w Lined = false
 
+-- the changed words of a step; a change of lines tells none
 abbrev pub changes_in : Happened → List ChangedRow
 changes_in (Stepped hart running kind changed) = changed
 changes_in Lined = []
@@ -104,6 +108,7 @@ watching_after happened new w = record {
   status = new;
 }
 
+-- the same with the state that the move left
 abbrev pub watched_after : Happened → State → Watching → Watching
 watched_after happened next w = watching_after happened (status_at w.so_far.hart w.so_far.block next) w
 
@@ -117,6 +122,7 @@ kind_after c hart (Fault l cause address a) = record c {
   kept = last_kept (c.kept ++ fault_record (c.steps + 1) hart l cause address a ∷ []);
 }
 
+-- the same after a move
 abbrev pub counts_after : Counts → Happened → Counts
 counts_after c (Stepped hart running kind changed) = kind_after c hart kind
 counts_after c Lined = c
@@ -125,6 +131,7 @@ counts_after c Lined = c
 abbrev pub all_after : Happened → State → List Watching → List Watching
 all_after happened next ws = map (watched_after happened next) ws
 
+-- a play after a move
 abbrev pub played_after : Happened → State → Played → Played
 played_after happened next p = record {
   calls = p.calls + 1;
@@ -136,5 +143,6 @@ played_after happened next p = record {
 abbrev pub CountsWithin : ℕ → Counts → Type 0
 CountsWithin n c = (c.steps ≤ n) × (c.faults ≤ n) × (c.recalls ≤ n)
 
+-- of no watch more is told than n moves can give
 abbrev pub TellsWithin : ℕ → List Watching → Type 0
 TellsWithin n ws = All (λ (w : Watching). (w.so_far.count ≤ n) × (w.so_far.line_total ≤ n)) ws

@@ -36,6 +36,7 @@ abbrev pub twin_after : State → WatchOf → List Item → Tally → State
 twin_after start w items t =
     bare_of (seen start.storage (map_along start.storage items)) (own w.hart items start) t.changes t.count
 
+-- the same after the first k moves
 abbrev pub twin_at : State → List Move → WatchOf → List Item → ℕ → State
 twin_at start moves w items k = twin_after start w items (tally_at start moves w items k)
 
@@ -66,6 +67,7 @@ IsBareRun start moves w =
     → is_touched_by start moves w items k ≡ false
     → IsAsBare start w items (state_at start moves k) (twin_at start moves w items k)
 
+-- that holds of each watch
 abbrev pub AreBareRuns : State → List Move → List WatchOf → Type 0
 AreBareRuns start moves watches = EachWatch (IsBareRun start moves) watches
 
@@ -120,10 +122,12 @@ pub record IsRoutedFault (start : State) (moves : List Move) (f : FaultRecord) :
   pub kind : (moved_of (state_at start moves place) f.hart).kind ≡ fault_kind f
   pub routed : IsRoutedIn (state_at start moves place) f.hart (fault_in (fault_kind f))
 
+-- P holds of each fault
 abbrev pub EachFault : (FaultRecord → Type 0) → List FaultRecord → Type 0
 EachFault P [] = Unit {0}
 EachFault P (f ∷ fs) = P f × EachFault P fs
 
+-- each of some faults is so routed
 abbrev pub AreRouted : State → List Move → List FaultRecord → Type 0
 AreRouted start moves faults = EachFault (IsRoutedFault start moves) faults
 

@@ -19,6 +19,7 @@ abbrev pub moves_of : Event → List Move
 moves_of (Turn hart count) = replicate count (StepOf hart)
 moves_of (Lines hart mask) = LinesOf hart mask ∷ []
 
+-- the moves of all events, in order
 abbrev pub schedule : List Event → List Move
 schedule events = flat_map moves_of events
 
@@ -31,6 +32,7 @@ pub record FaultRecord : Type 0 where
   pub address : ℕ
   pub access : Access
 
+-- such a fault
 abbrev pub fault_record : ℕ → ℕ → ℕ → ℕ → ℕ → Access → FaultRecord
 fault_record step hart l cause address a =
     record { step = step; hart = hart; receiver = l; cause = cause; address = address; access = a }
@@ -41,9 +43,11 @@ pub record Count : Type 0 where
   pub faults : List FaultRecord
   pub recalls : ℕ
 
+-- before any move
 abbrev pub no_count : Count
 no_count = record { steps = 0; faults = []; recalls = 0 }
 
+-- after a step of this kind
 abbrev pub kind_counted : Count → ℕ → StepKind → Count
 kind_counted c hart WorkedKind = record c { steps = c.steps + 1 }
 kind_counted c hart (Recall l) = record c { steps = c.steps + 1; recalls = c.recalls + 1 }
@@ -52,10 +56,12 @@ kind_counted c hart (Fault l cause address a) = record c {
   faults = c.faults ++ fault_record (c.steps + 1) hart l cause address a ∷ [];
 }
 
+-- after a move, from the state st
 abbrev pub count_after : State → Move → Count → Count
 count_after st (StepOf hart) c = kind_counted c hart (moved_of st hart).kind
 count_after st (LinesOf hart mask) c = c
 
+-- after some moves
 unfoldable pub count_of : State → List Move → Count → Count
 count_of st [] c = c
 count_of st (move ∷ moves) c = count_of (state_after st move) moves (count_after st move c)
@@ -85,6 +91,7 @@ pub record WatchRecord : Type 0 where
   pub line_total : ℕ
   pub lines : List LineChange
 
+-- what is told of a watch by its tally
 abbrev pub watch_record : WatchOf → State → List Item → Tally → WatchRecord
 watch_record w start items t = record {
   hart = w.hart;
@@ -116,6 +123,7 @@ pub record PlayRecord : Type 0 where
   pub kept : List FaultRecord
   pub watches : List WatchRecord
 
+-- what is told of a play by its count and its watches
 abbrev pub count_record : Count → List WatchRecord → PlayRecord
 count_record c watches = record {
   steps = c.steps;

@@ -23,6 +23,7 @@ abbrev pub IsMoveInside : State → Move → Type 0
 IsMoveInside st (StepOf hart) = IsNextInside st hart
 IsMoveInside st (LinesOf hart mask) = Unit {0}
 
+-- the same over some moves
 unfoldable pub StaysInside : State → List Move → Type 0
 StaysInside st [] = Unit {0}
 StaysInside st (move ∷ moves) = IsMoveInside st move × StaysInside (state_after st move) moves

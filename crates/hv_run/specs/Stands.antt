@@ -18,6 +18,7 @@ use Rattle.hv_run.specs.Play.{Watching, Played, play_record, status_at}
 abbrev pub watch_of : Watch → WatchOf
 watch_of w = record { hart = w.hart; path = w.path }
 
+-- the same of some watches
 abbrev pub watches_of : List Watch → List WatchOf
 watches_of ws = map watch_of ws
 
@@ -33,6 +34,7 @@ pub record IsWatchable (start : State) (w : WatchOf) : Type 0 where
   pub machine : IsThere start.storage (pin_of start.storage w.path)
   pub bare : w.path ≡ [] → length start.harts ≡ 1
 
+-- each of the watches is such a one
 abbrev pub CanWatch : State → List WatchOf → Type 0
 CanWatch start watches = EachWatch (IsWatchable start) watches
 
@@ -47,10 +49,12 @@ pub record IsKept (start now : State) (w : WatchOf) (items : List Item) (kept : 
   pub foot : SetOf kept.foot (foot start.storage items)
   pub status : kept.status ≡ status_at w.hart (last_block items) now
 
+-- the same with the machines on the watch's path, which are there
 abbrev pub KeptOf : State → State → WatchOf → Option (List Item) → Watching → Type 0
 KeptOf start now w None kept = ⊥
 KeptOf start now w (Some items) kept = IsKept start now w items kept
 
+-- the same of each watch
 abbrev pub EachKept : State → State → List WatchOf → List Watching → Type 0
 EachKept start now [] [] = Unit {0}
 EachKept start now [] (k ∷ ks) = ⊥
@@ -63,9 +67,11 @@ NewAt start w None kept = ⊥
 NewAt start w (Some items) kept =
     (kept.so_far ≡ watch_record w start items no_tally) × IsKept start start w items kept × IsSized start w
 
+-- the same with the machines on its path
 abbrev pub IsNew : State → WatchOf → Watching → Type 0
 IsNew start w kept = NewAt start w (pin_of start.storage w.path) kept
 
+-- the same of each watch
 abbrev pub EachNew : State → List WatchOf → List Watching → Type 0
 EachNew start [] [] = Unit {0}
 EachNew start [] (k ∷ ks) = ⊥

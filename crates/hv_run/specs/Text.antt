@@ -37,6 +37,7 @@ register_lines words =
 abbrev pub change_line : LineChange → List ℕ
 change_line change = line (codes "line " ++ decimal change.count ++ codes " " ++ hex8 change.bits)
 
+-- all changes, in order
 unfoldable pub changes_text : List LineChange → List ℕ
 changes_text changes = flat_map change_line changes
 

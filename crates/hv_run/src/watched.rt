@@ -90,7 +90,6 @@ impl Watched {
 
     // Whether a move counts for the watch.
     #[inline(always)]
-    #[tactic(auto, using(crate::proofs::Begins::starts_begins))]
     fn counts(&self, happened: &Happened) -> bool
         ensures { result ≡ counts_for self.now.so_far happened.now }
     {

@@ -11,6 +11,7 @@ use Rattle.hv_asm.specs.declared.forms.Form.TheVariants.{Registers, Immediate, S
 
 -- what follows where nothing was refused
 infixl 10 ◌>>=◌
+-- what f makes of a result, or its refusal
 abbrev pub ◌>>=◌ : {A B : Type 0} → Result A AsmKind → (A → Result B AsmKind) → Result B AsmKind
 (Ok x) >>= f = f x
 (Err e) >>= f = Err e

@@ -122,6 +122,7 @@ pub record Contents : Type 0 where
   pub table : ℕ
   pub version : ℕ
 
+-- what the words of page g say
 abbrev pub contents_at : List ℕ → ℕ → Contents
 contents_at S g = record { regs = regs_at S g; pages = pages_at S g; table = table_at S g; version = version_at S g }
 

@@ -9,6 +9,7 @@ use Rattle.hv_cpu.specs.Regs.{Regs}
 abbrev pub lines : ℕ → ℕ
 lines w = bit_and w lines_mask
 
+-- w without its lines
 abbrev pub unlined : ℕ → ℕ
 unlined w = w - lines w
 

@@ -9,6 +9,7 @@ mode_word U = 0
 mode_word S = 1
 mode_word M = 3
 
+-- the mode of a number
 abbrev pub mode_of : ℕ → Mode
 mode_of zero = U
 mode_of (suc zero) = S

@@ -138,6 +138,7 @@ file_of r =
     r.x13 ∷ r.x14 ∷ r.x15 ∷ r.x16 ∷ r.x17 ∷ r.x18 ∷ r.x19 ∷ r.x20 ∷ r.x21 ∷ r.x22 ∷ r.x23 ∷ r.x24 ∷
     r.x25 ∷ r.x26 ∷ r.x27 ∷ r.x28 ∷ r.x29 ∷ r.x30 ∷ r.x31 ∷ []
 
+-- the value of register i
 abbrev pub reg : Regs → ℕ → ℕ
 reg r i = slice_index (file_of r) i
 

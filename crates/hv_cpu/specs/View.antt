@@ -4,14 +4,17 @@ use Rattle.hv_cpu.specs.Regs.{Regs, FitsHart, file_of}
 use Rattle.hv_cpu.specs.Modes.{mode_word, mode_of}
 use Rattle.hv_cpu.specs.declared.Cpu.TheInside.{Inside}
 
+-- the word of a next: its page, or 0
 abbrev pub next_word : Option ℕ → ℕ
 next_word None = 0
 next_word (Some page) = page
 
+-- the next that a word says
 abbrev pub next_of : ℕ → Option ℕ
 next_of zero = None
 next_of (suc n) = Some (suc n)
 
+-- the 50 words of the fields
 abbrev pub regs_of : Inside → Regs
 regs_of a = record {
   pc = a.pc;
@@ -66,6 +69,7 @@ regs_of a = record {
   next = next_word a.next;
 }
 
+-- the fields of 50 words
 abbrev pub inside : Regs → Inside
 inside r = record {
   pc = r.pc;

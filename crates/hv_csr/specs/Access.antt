@@ -16,10 +16,12 @@ is_barred r number =
 abbrev pub is_read_only : ℕ → Bool
 is_read_only number = field_of number 10 2 == 3
 
+-- the value of a register that there is, on this hart
 abbrev pub read_at : Regs → ℕ → Option Csr → Option ℕ
 read_at r hart None = None
 read_at r hart (Some c) = Some ((row_of c).read r hart)
 
+-- the registers after a write to one that there is
 abbrev pub write_at : Regs → ℕ → Option Csr → Option Regs
 write_at r v None = None
 write_at r v (Some c) = Some ((row_of c).write r v)

@@ -13,6 +13,7 @@ by_urgency = 11 ∷ 3 ∷ 7 ∷ 9 ∷ 1 ∷ 5 ∷ []
 abbrev pub has_line : ℕ → ℕ → Bool
 has_line set k = bit_and set (2 ^ k) == 2 ^ k
 
+-- the first of these that is in the set
 abbrev pub first_in : List ℕ → ℕ → Option ℕ
 first_in [] set = None
 first_in (k ∷ ks) set = if has_line set k then Some k else first_in ks set
@@ -36,10 +37,12 @@ is_open_m r = nat_lt r.mode 3 || field_of r.mstatus 3 1 == 1
 abbrev pub is_open_s : Regs → Bool
 is_open_s r = r.mode == 0 || (r.mode == 1 && field_of r.mstatus 1 1 == 1)
 
+-- the first, if there is one, and else the other
 abbrev pub or_else : Option ℕ → Option ℕ → Option ℕ
 or_else (Some k) other = Some k
 or_else None other = other
 
+-- the most urgent of a set, where its interrupts can be taken now
 abbrev pub most_urgent_of : Bool → ℕ → Option ℕ
 most_urgent_of is_open set = if is_open then first_in by_urgency set else None
 

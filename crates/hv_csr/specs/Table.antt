@@ -228,5 +228,6 @@ abbrev pub numbered : List Csr → ℕ → Option Csr
 numbered [] number = None
 numbered (c ∷ cs) number = if number == (row_of c).number then Some c else numbered cs number
 
+-- the register with that number, if there is one
 abbrev pub csr_of : ℕ → Option Csr
 csr_of number = numbered all number

@@ -25,6 +25,7 @@ entered_m w mode = field_put (field_put (field_put w 7 1 (field_of w 3 1)) 3 1 0
 abbrev pub entered_s : ℕ → ℕ → ℕ
 entered_s w mode = field_put (field_put (field_put w 5 1 (field_of w 1 1)) 1 1 0) 8 1 mode
 
+-- the registers after a trap, which goes to S where it is delegated, and else to M
 abbrev pub take_trap_of : Regs → ℕ → Bool → ℕ → Regs
 take_trap_of r cause interrupt tval =
     if goes_down r cause interrupt then record r {
@@ -68,6 +69,7 @@ mret_of r =
 abbrev pub may_sret : Regs → Bool
 may_sret r = if r.mode == 1 then field_of r.mstatus 22 1 == 0 else r.mode == 3
 
+-- the registers after SRET; none where it may not be used
 abbrev pub sret_of : Regs → Option Regs
 sret_of r =
     if may_sret r then Some (record r {

@@ -34,6 +34,7 @@ loaded S r address width signed rd offset (Some (Err e)) = Refused e
 loaded S r address width signed rd offset (Some (Ok v)) =
     Done S (given r rd (extended width signed (lane_of v (lane_at width offset))))
 
+-- a load, by where its address was found
 abbrev pub load_at : List ℕ → List Slot → Regs → ℕ → Width → Bool → ℕ → Walked → Acted
 load_at S F r address width signed rd (Found page offset) =
     loaded S r address width signed rd offset (get S F page (offset / 4) Read)
@@ -46,6 +47,7 @@ stored S r address None = trapped S r 7 address
 stored S r address (Some (Err e)) = Refused e
 stored S r address (Some (Ok T)) = Done T (advanced r)
 
+-- a store, by where its address was found
 abbrev pub store_at : List ℕ → List Slot → Regs → ℕ → Width → ℕ → Walked → Acted
 store_at S F r address width v (Found page offset) =
     stored S r address (set S F page (offset / 4) (lane_at width offset) v)
@@ -82,11 +84,13 @@ unfoldable pub decoded : List ℕ → List Slot → ℕ → Regs → ℕ → Opt
 decoded S F hart r w None = trapped S r 2 w
 decoded S F hart r w (Some i) = carried_out S F r (do_of i w r hart)
 
+-- an instruction, by what its fetch gave; outside the machine's pages it is an access fault
 abbrev pub fetched : List ℕ → List Slot → ℕ → Regs → Option (Result ℕ Refusal) → Acted
 fetched S F hart r None = trapped S r 1 r.pc
 fetched S F hart r (Some (Err e)) = Refused e
 fetched S F hart r (Some (Ok w)) = decoded S F hart r w (decode_of w)
 
+-- an instruction, by where the program counter was found
 unfoldable pub fetch_at : List ℕ → List Slot → ℕ → Regs → Walked → Acted
 fetch_at S F hart r (Found page offset) = fetched S F hart r (get S F page (offset / 4) Fetch)
 fetch_at S F hart r (TrapWith cause tval) = trapped S r cause tval

@@ -9,6 +9,7 @@ sum_of a b = (a + b) % 2 ^ 32
 abbrev pub difference_of : ℕ → ℕ → ℕ
 difference_of a b = (a + (2 ^ 32 - b)) % 2 ^ 32
 
+-- comparison of words as signed numbers
 abbrev pub is_less_signed : ℕ → ℕ → Bool
 is_less_signed a b = int_lt (signed_of a) (signed_of b)
 

@@ -44,5 +44,6 @@ ChangesFew S F r (Done T q) =
     × (length ps + n ≤ 6)
     × ((a : ℕ) → has a ps ≡ true → opens_for_writing F (a / 1024) ≡ true)
 
+-- that holds of every instruction, over every map
 abbrev pub FewLaw : Type 0
 FewLaw = (S : List ℕ) (F : List Slot) (hart : ℕ) (r : Regs) → ChangesFew S F r (act_of S F hart r)

@@ -8,6 +8,7 @@ use Rattle.hv_exec.specs.declared.answer.Width.{Width}
 use Rattle.hv_exec.specs.declared.answer.Width.TheVariants.{Byte as OneByte, Half as TwoBytes, Word as FourBytes}
 use Rattle.hv_exec.specs.Answer.{Answer, Trap, Load, Store}
 
+-- how many bytes an access has
 abbrev pub bytes_of : Width → ℕ
 bytes_of OneByte = 1
 bytes_of TwoBytes = 2

@@ -26,6 +26,7 @@ abbrev pub answered_csr : Option Regs → ℕ → ℕ → ℕ → Answer
 answered_csr None rd old w = illegal_of w
 answered_csr (Some q) rd old w = Next (given q rd old)
 
+-- an instruction on a control register whose old value is given, none where it can't be read
 abbrev pub read_csr : Option ℕ → Update → ℕ → Instr → ℕ → Regs → Answer
 read_csr None update source i w r = illegal_of w
 read_csr (Some old) update source i w r =

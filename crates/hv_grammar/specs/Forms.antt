@@ -21,6 +21,7 @@ pub data Word : Type 0 where
   Named : (name : List ℕ) → Word
   Spelt : (n : ℕ) → Word
 
+-- a word is one of this form
 abbrev pub IsWord : Word → List ℕ → Type 0
 IsWord (Fixed text) word = word ≡ text
 IsWord (Named name) word = (word ≡ name) × (is_name word ≡ true)
@@ -83,6 +84,7 @@ sample_word Slicer = codes "slicer"
 sample_word Forward = codes "forward"
 sample_word Pager = codes "pager"
 
+-- the words of a directive's form
 abbrev pub form_words : Form → List Word
 form_words (Harts harts) = Fixed (codes "harts") ∷ Spelt harts ∷ []
 form_words (Hart hart at) = Fixed (codes "hart") ∷ Spelt hart ∷ Spelt at ∷ []
@@ -177,6 +179,7 @@ pub data Call : Type 0 where
   -- faults
   FaultsCall : Call
 
+-- the words of a command's form
 abbrev pub call_words : Call → List Word
 call_words (StepCall count) = Fixed (codes "step") ∷ Spelt count ∷ []
 call_words (BreakCall name at) = Fixed (codes "break") ∷ Named name ∷ Spelt at ∷ []
@@ -186,6 +189,7 @@ call_words (PathCall hart) = Fixed (codes "path") ∷ Spelt hart ∷ []
 call_words (MapCall name page) = Fixed (codes "map") ∷ Named name ∷ Spelt page ∷ []
 call_words FaultsCall = Fixed (codes "faults") ∷ []
 
+-- the values of a command that are allowed
 abbrev pub IsCallInRange : Call → Type 0
 IsCallInRange (StepCall count) = (1 ≤ count) × (count ≤ steps_limit)
 IsCallInRange (BreakCall name at) = Unit {0}
@@ -195,6 +199,7 @@ IsCallInRange (PathCall hart) = hart < job_harts
 IsCallInRange (MapCall name page) = page < 2 ^ 20
 IsCallInRange FaultsCall = Unit {0}
 
+-- the command that a form calls for
 abbrev pub calls_for : Call → DebugCommand
 calls_for (StepCall count) = command.Step count
 calls_for (BreakCall name at) = command.Break name at

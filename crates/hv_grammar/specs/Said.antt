@@ -72,6 +72,7 @@ FormAssembles (Image name at) behind = IsOk (image_words at (inner_lines behind)
 FormAssembles (Sampled name at which) behind = IsOk (asm_of (sample_text which) at)
 FormAssembles _ behind = Unit {0}
 
+-- the same of what a line says
 abbrev pub AssemblesWith : Said → List Said → Type 0
 AssemblesWith (Directed form) behind = FormAssembles form behind
 AssemblesWith _ behind = Unit {0}
@@ -86,6 +87,7 @@ abbrev pub on_line : ℕ → List Directive → List Placed
 on_line number [] = []
 on_line number (what ∷ rest) = record { line = number; what = what } ∷ on_line number rest
 
+-- the directives of one line, with its number
 abbrev pub placed_by : ℕ → Said → List Said → List Placed
 placed_by number (Directed form) behind = on_line number (directives_by form behind)
 placed_by number _ behind = []
@@ -95,6 +97,7 @@ abbrev pub placed_said : ℕ → List Said → List Placed
 placed_said number [] = []
 placed_said number (said ∷ says) = placed_by number said says ++ placed_said (number + 1) says
 
+-- the events of one line
 abbrev pub events_by : Said → List Event
 events_by (Directed (Turn hart count)) = event.Turn hart count ∷ []
 events_by (Directed (Lines hart mask)) = event.Lines hart mask ∷ []
@@ -105,6 +108,7 @@ abbrev pub events_said : List Said → List Event
 events_said [] = []
 events_said (said ∷ says) = events_by said ++ events_said says
 
+-- the pages of the storage, by one line and those behind it
 abbrev pub pages_by : Said → ℕ → ℕ
 pages_by (StorageOf pages) behind = pages
 pages_by _ behind = behind
@@ -114,6 +118,7 @@ abbrev pub pages_said : List Said → ℕ
 pages_said [] = 0
 pages_said (said ∷ says) = pages_by said (pages_said says)
 
+-- the number of harts, by one line and those behind it
 abbrev pub harts_by : Said → Option ℕ → Option ℕ
 harts_by (Directed (Harts harts)) behind = Some harts
 harts_by _ behind = behind
@@ -123,6 +128,7 @@ abbrev pub harts_said : List Said → Option ℕ
 harts_said [] = None
 harts_said (said ∷ says) = harts_by said (harts_said says)
 
+-- the commands of one line, with its number
 abbrev pub commands_by : ℕ → Said → List DebugLine
 commands_by number (Called words what) = record { line = number; words = join_words_of words; what = what } ∷ []
 commands_by number _ = []

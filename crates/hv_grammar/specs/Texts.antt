@@ -104,6 +104,7 @@ pub record AreGoodBefore (lines : List (List ℕ)) (number : ℕ) : Type 0 where
   pub place : Place
   pub goes_on : GoesOn BeforeHeader (take (number - 1) lines) says place
 
+-- the lines before the refused one are good
 abbrev pub RefusedTextLaw : Type 0
 RefusedTextLaw =
     (text : List ℕ) (number : ℕ) (kind : JobKind)
@@ -123,6 +124,7 @@ IsLate fault.Operand = Unit {0}
 IsLate fault.Label = Unit {0}
 IsLate _ = ⊥
 
+-- a text whose lines go all the way is refused for nothing else
 abbrev pub ThroughTextLaw : Type 0
 ThroughTextLaw =
     (text : List ℕ) (says : List Said) (place : Place)

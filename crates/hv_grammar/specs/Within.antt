@@ -12,6 +12,7 @@ abbrev pub harts_by_line : Said → ℕ
 harts_by_line (Directed (Harts harts)) = 1
 harts_by_line _ = 0
 
+-- the same of several lines
 abbrev pub harts_lines : List Said → ℕ
 harts_lines [] = 0
 harts_lines (said ∷ says) = harts_lines says + harts_by_line said

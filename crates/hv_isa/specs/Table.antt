@@ -158,6 +158,7 @@ pub record Fixed : Type 0 where
   pub rs2 : Option ℕ
   pub f7 : Option ℕ
 
+-- those of a row's format
 abbrev pub fixed_of : Shape → Fixed
 fixed_of (U o) = record { opcode = o; rd = None; f3 = None; rs1 = None; rs2 = None; f7 = None }
 fixed_of (J o) = record { opcode = o; rd = None; f3 = None; rs1 = None; rs2 = None; f7 = None }

@@ -21,6 +21,7 @@ is_over commands _ = nat_le job_commands (length commands)
 abbrev pub commands_with : List DebugLine → ℕ → List ℕ → DebugCommand → List DebugLine
 commands_with commands number words what = commands ++ record { line = number; words = words; what = what } ∷ []
 
+-- the same, unless there are too many commands then, or too many breakpoints
 abbrev pub new_commands : List DebugLine → ℕ → List (List ℕ) → DebugCommand → Result (List DebugLine) JobKind
 new_commands commands number words what =
     if is_over commands what then Err fault.Many else Ok (commands_with commands number (join_words_of words) what)
@@ -32,6 +33,7 @@ line_commands commands number line =
     else if not (has_words line) then Ok commands
     else command_of (words_of line) >>= new_commands commands number (words_of line)
 
+-- what follows where the line was no fault
 abbrev pub commands_then :
     ℕ → Result (List DebugLine) JobKind
     → (List DebugLine → Result (List DebugLine) (ℕ × JobKind)) → Result (List DebugLine) (ℕ × JobKind)

@@ -44,6 +44,7 @@ pub data Happening : Type 0 where
   TurnOf : ℕ → Happening
   LinesOf : ℕ → Happening
 
+-- an event without its count or its lines
 abbrev pub happening_of : Event → Happening
 happening_of (event.Turn hart count) = TurnOf hart
 happening_of (event.Lines hart mask) = LinesOf hart
@@ -54,9 +55,11 @@ event_in (directive.Turn hart) = Some (TurnOf hart)
 event_in (directive.Lines hart) = Some (LinesOf hart)
 event_in _ = None
 
+-- the same of a directive with its line
 abbrev pub event_of : Placed → Option Happening
 event_of placed = event_in placed.what
 
+-- whether a command sets a breakpoint
 abbrev pub is_break : DebugCommand → Bool
 is_break (command.Break name at) = true
 is_break _ = false

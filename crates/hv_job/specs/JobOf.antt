@@ -68,6 +68,7 @@ abbrev pub event_directive : Event → Directive
 event_directive (event.Turn hart count) = directive.Turn hart
 event_directive (event.Lines hart mask) = directive.Lines hart
 
+-- the draft with an event that the schedule takes, or the kind by which it refuses
 abbrev pub event_with : Draft → ℕ → Event → Option PushEnd → Result Draft JobKind
 event_with draft number event (Some refusal) = Err (push_kind refusal)
 event_with draft number event None =
@@ -80,6 +81,7 @@ event_with draft number event None =
 unfoldable pub schedule_with : Draft → ℕ → Event → Result Draft JobKind
 schedule_with draft number event = event_with draft number event (refusal_of draft.recording event)
 
+-- the draft with a sample's words, or out of range where they can't be assembled there
 abbrev pub sample_with : Draft → ℕ → List ℕ → ℕ → Result (List ℕ) (ℕ × AsmKind) → Result Draft JobKind
 sample_with draft number name at (Err refusal) = Err fault.Range
 sample_with draft number name at (Ok words) =
@@ -118,6 +120,7 @@ image_words base lines = words_from (place_of base lines) base 1 base lines
 abbrev pub before_end : List (List ℕ) → List (List ℕ)
 before_end lines = take_while (λ line. not (is_end line)) lines
 
+-- the same where the end may be missing
 abbrev pub image_of : Draft → ℕ → List ℕ → ℕ → List (List ℕ) → Option (List ℕ) → Result Draft (ℕ × JobKind)
 image_of draft number name base inside None = Err (number, fault.Open)
 image_of draft number name base inside (Some line) =
@@ -154,6 +157,7 @@ line_with draft number line behind =
     else if begins_with (codes "debug") (words_of line) then Err (number, fault.Words)
     else words_with draft number behind (statement_of (words_of line))
 
+-- whether a line begins an image
 abbrev pub is_image : Result Statement JobKind → Bool
 is_image (Ok (states.Image name at)) = true
 is_image _ = false
@@ -172,10 +176,12 @@ job_in draft commands = record {
   commands = commands;
 }
 
+-- the job with these commands, or the first line of them that is refused
 abbrev pub job_with : Draft → Result (List DebugLine) (ℕ × JobKind) → Answer
 job_with draft (Ok commands) = Ok (job_in draft commands)
 job_with draft (Err refusal) = Err refusal
 
+-- what follows where no line of directives was refused
 abbrev pub and_then : Result Draft (ℕ × JobKind) → (Draft → Answer) → Answer
 and_then (Ok draft) next = next draft
 and_then (Err refusal) next = Err refusal
@@ -193,6 +199,7 @@ body_from draft false number (line ∷ lines) =
 abbrev pub draft_of : ℕ → Draft
 draft_of pages = record { pages = pages; harts = None; lines = []; recording = [] }
 
+-- the job of the lines behind the storage's, or the refusal of that line
 abbrev pub behind_storage : ℕ → List (List ℕ) → Result ℕ JobKind → Answer
 behind_storage number lines (Ok pages) = body_from (draft_of pages) false (number + 1) lines
 behind_storage number lines (Err kind) = Err (number, kind)

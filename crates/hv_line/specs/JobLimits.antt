@@ -32,5 +32,6 @@ job_image_bytes = 67108864
 abbrev pub job_commands : ℕ
 job_commands = 1024
 
+-- how many of the commands can be breakpoints
 abbrev pub job_breaks : ℕ
 job_breaks = 16

@@ -18,6 +18,7 @@ use Rattle.hv_line.specs.declared.types.Statement.TheVariants as states
 
 -- what follows a test that was passed
 infixl 10 ◌>>=◌
+-- what follows a value, or its refusal
 abbrev pub ◌>>=◌ : {A B : Type 0} → Result A JobKind → (A → Result B JobKind) → Result B JobKind
 (Ok value) >>= next = next value
 (Err kind) >>= next = Err kind
@@ -26,6 +27,7 @@ abbrev pub ◌>>=◌ : {A B : Type 0} → Result A JobKind → (A → Result B J
 unfoldable pub fixed : List ℕ → List ℕ → Result (Unit {0}) JobKind
 fixed text word = if bytes_eq word text then Ok tt else Err fault.Words
 
+-- the name, or the kind where there is none
 abbrev pub or_no_name : Option (List ℕ) → Result (List ℕ) JobKind
 or_no_name None = Err fault.Name
 or_no_name (Some name) = Ok name
@@ -34,6 +36,7 @@ or_no_name (Some name) = Ok name
 unfoldable pub named : List ℕ → Result (List ℕ) JobKind
 named word = or_no_name (name_of word)
 
+-- the number, or the kind where there is none
 abbrev pub or_no_number : Option ℕ → Result ℕ JobKind
 or_no_number None = Err fault.Number
 or_no_number (Some n) = Ok n
@@ -192,6 +195,7 @@ sample_directive_of (name ∷ a ∷ which ∷ []) = do
   Ok (states.Sample name a which)
 sample_directive_of _ = Err fault.Words
 
+-- word NAME A V..
 abbrev pub word_with : List ℕ → List ℕ → List (List ℕ) → Result Statement JobKind
 word_with name a values = do
   name ← named name

@@ -39,6 +39,7 @@ parts_of b (placed ∷ parts) = part_of b placed.what >>= λ next. parts_of next
 abbrev pub with_top : Building → Known → Building
 with_top b k = record b { names = b.names ++ record k { name = codes "top" } ∷ []; towered = true }
 
+-- the same of the last machine of a tower, which is found by the name of its level
 abbrev pub top_of : Building → (depth : ℕ) → Result Building BuildKind
 top_of b depth = known (level_name depth) b.names >>= λ k. Ok (with_top b k)
 
@@ -90,6 +91,7 @@ command_of b (command.Path hart) = event_of b hart
 command_of b (command.Map name page) = known name b.names >>= λ k. Ok b
 command_of b command.Faults = Ok b
 
+-- the first fault of some lines: that of this one, else that of the rest
 abbrev pub fault_or : {A : Type 0} → ℕ → Result A BuildKind → Option (ℕ × BuildKind) → Option (ℕ × BuildKind)
 fault_or line (Ok x) rest = rest
 fault_or line (Err why) rest = Some (line, why)
@@ -131,9 +133,11 @@ abbrev pub unless_fault : Building → Option ℕ → Result Start (ℕ × Build
 unless_fault b None = Ok (start_of b)
 unless_fault b (Some line) = Err (line, kind.Watch)
 
+-- the start of a job, or the line of the first watch that can't be played
 abbrev pub finish_of : Building → Result Start (ℕ × BuildKind)
 finish_of b = unless_fault b (watch_fault b.storage b.watches)
 
+-- the same, if no command is refused
 abbrev pub unless_refused : Building → Option (ℕ × BuildKind) → Result Start (ℕ × BuildKind)
 unless_refused b None = finish_of b
 unless_refused b (Some end) = Err end

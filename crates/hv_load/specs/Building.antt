@@ -32,6 +32,7 @@ pub record Building : Type 0 where
 
 -- a step that may be refused, and one that goes on from what it gives
 infixl 10 ◌>>=◌
+-- what f makes of a result, or its refusal
 abbrev pub ◌>>=◌ : {A B : Type 0} → Result A BuildKind → (A → Result B BuildKind) → Result B BuildKind
 (Ok x) >>= f = f x
 (Err e) >>= f = Err e
@@ -40,10 +41,12 @@ abbrev pub ◌>>=◌ : {A B : Type 0} → Result A BuildKind → (A → Result B
 abbrev pub named : List ℕ → List Known → Option Known
 named name ks = find (λ (k : Known). bytes_eq k.name name) ks
 
+-- the machine, or the kind for a name that no machine has
 abbrev pub known_as : Option Known → Result Known BuildKind
 known_as None = Err kind.Unknown
 known_as (Some k) = Ok k
 
+-- the machine of this name, or that kind
 abbrev pub known : List ℕ → List Known → Result Known BuildKind
 known name ks = known_as (named name ks)
 
@@ -52,6 +55,7 @@ abbrev pub inside_another : Known → List ℕ → Result Known BuildKind
 inside_another k [] = Err kind.Unknown
 inside_another k (s ∷ path) = Ok k
 
+-- the machine of this name, where it lies in another
 abbrev pub known_inside : List ℕ → List Known → Result Known BuildKind
 known_inside name ks = known name ks >>= λ k. inside_another k k.path
 

@@ -48,6 +48,7 @@ with_made b name parent block pages table at taken =
       machines = b.machines + 1;
     }
 
+-- a machine with this name inside another, unless it is too deep, the name is taken or a page is outside
 abbrev pub made_in : Building → List ℕ → Known → (block pages table at : ℕ) → Result Building BuildKind
 made_in b name parent block pages table at =
     if nat_le depth_limit (length parent.path) then Err kind.Depth
@@ -70,6 +71,7 @@ mapped_in b k page entry =
     if nat_le k.pages page then Err kind.Outside
     else table_word_of b.storage k.path page >>= λ place. Ok (record b { storage = slice_set b.storage place entry })
 
+-- the same of the machine of this name
 abbrev pub mapped_of : Building → List ℕ → (page entry : ℕ) → Result Building BuildKind
 mapped_of b name page entry = known_inside name b.names >>= λ k. mapped_in b k page entry
 
@@ -79,6 +81,7 @@ started_in b k pc =
     reads_in (map_of b.storage (outer k.path)) (block_page k.path) >>= λ g.
     Ok (record b { storage = slice_set b.storage (1024 * g) pc })
 
+-- the same of the machine of this name
 abbrev pub started_of : Building → List ℕ → (pc : ℕ) → Result Building BuildKind
 started_of b name pc = known_inside name b.names >>= λ k. started_in b k pc
 
@@ -88,6 +91,7 @@ words_in b k at values =
     each_from (place_by (page_of b.storage k)) (at / 4) (length values) >>= λ places.
     Ok (record b { storage = with_values b.storage places values })
 
+-- the same of the machine of this name
 abbrev pub words_of : Building → List ℕ → (at : ℕ) → List ℕ → Result Building BuildKind
 words_of b name at values = known name b.names >>= λ k. words_in b k at values
 
@@ -101,6 +105,7 @@ image_in b k image =
       marks = marked mark.Image (map page_at places) b.marks;
     })
 
+-- the same of the machine of this name
 abbrev pub image_of : Building → List ℕ → Image → Result Building BuildKind
 image_of b name image = known name b.names >>= λ k. image_in b k image
 
@@ -119,6 +124,7 @@ watch_in b line hart k =
       watches = b.watches ++ record { line = line; watch = record { hart = hart; path = k.path } } ∷ [];
     })
 
+-- the same of the machine of this name and a hart that is there
 abbrev pub watch_of : Building → (line hart : ℕ) → List ℕ → Result Building BuildKind
 watch_of b line hart name =
     if nat_lt hart (length b.harts) then known name b.names >>= watch_in b line hart else Err kind.Hart
@@ -127,5 +133,6 @@ watch_of b line hart name =
 abbrev pub dump_in : Building → List ℕ → (page : ℕ) → Known → Result Building BuildKind
 dump_in b name page k = Ok (record b { dumps = b.dumps ++ record { name = name; path = k.path; page = page } ∷ [] })
 
+-- the same of the machine of this name
 abbrev pub dump_of : Building → List ℕ → (page : ℕ) → Result Building BuildKind
 dump_of b name page = known name b.names >>= dump_in b name page

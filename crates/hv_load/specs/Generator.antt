@@ -59,6 +59,7 @@ kernel_of seed = additions seed 511 ++ word_of jump_back ∷ []
 abbrev pub entry_of : (depth : ℕ) → List Event
 entry_of depth = if depth == 0 then [] else event.Turn 0 (3 * depth) ∷ []
 
+-- a turn of 2000 steps
 abbrev pub long_turn : Event
 long_turn = event.Turn 0 2000
 
@@ -71,18 +72,23 @@ schedule_of depth = entry_of depth ++ replicate 100 long_turn
 abbrev pub tower_line : (depth : ℕ) → Placed
 tower_line depth = record { line = 3; what = directive.Tower depth 4 Pass }
 
+-- the line of the kernel's image
 abbrev pub kernel_line : (kernel : List ℕ) → Placed
 kernel_line kernel = record { line = 4; what = directive.Image (codes "top") record { base = 0; words = kernel } }
 
+-- the line of turn k
 abbrev pub turn_line : (k : ℕ) → Placed
 turn_line k = record { line = 518 + k; what = directive.Turn 0 }
 
+-- the lines of the turns
 unfoldable pub turn_lines : (count : ℕ) → List Placed
 turn_lines count = map turn_line (range_with_len 0 count)
 
+-- the line of the watch
 abbrev pub watch_line : (turns : ℕ) → Placed
 watch_line turns = record { line = 518 + turns; what = directive.Watch 0 (codes "top") }
 
+-- all lines with directives
 abbrev pub lines_of : (depth : ℕ) → (kernel : List ℕ) → (turns : ℕ) → List Placed
 lines_of depth kernel turns = tower_line depth ∷ kernel_line kernel ∷ turn_lines turns ++ watch_line turns ∷ []
 

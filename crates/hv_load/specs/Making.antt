@@ -15,6 +15,7 @@ block_word pages table w = if w == 32 then 3 else if w == 65 then pages else if 
 abbrev pub entry_word : (pages at i : ℕ) → ℕ
 entry_word pages at i = if nat_lt i pages then (at + i) * 4096 + 3 else 0
 
+-- word w of table page k, the pages being the parent's from `at` on
 abbrev pub table_word : (pages at k w : ℕ) → ℕ
 table_word pages at k w = entry_word pages at (1024 * k + w)
 
@@ -32,9 +33,10 @@ abbrev pub with_machine : List ℕ → (pages table at : ℕ) → List ℕ → L
 with_machine S pages table at [] = S
 with_machine S pages table at (g ∷ gs) = with_tables (with_page S g (block_word pages table)) pages at 0 gs
 
--- the bare pages are all free and all different
+-- the bare pages are all free
 abbrev pub all_free : List Mark → List ℕ → Bool
 all_free marks pages = list_all (free_at marks) pages
 
+-- they are free, and all different
 abbrev pub can_take : List Mark → List ℕ → Bool
 can_take marks pages = all_free marks pages && are_distinct pages

@@ -17,10 +17,12 @@ abbrev pub opened : Way → Result ℕ BuildKind
 opened (Open g) = Ok g
 opened (Shut l c p w) = Err kind.Absent
 
+-- the bare page in which a page can be read
 abbrev pub read_at : Option Slot → Result ℕ BuildKind
 read_at None = Err kind.Absent
 read_at (Some slot) = opened slot.read
 
+-- the bare page in which it can be written
 abbrev pub written_at : Option Slot → Result ℕ BuildKind
 written_at None = Err kind.Absent
 written_at (Some slot) = opened slot.write
@@ -31,6 +33,7 @@ abbrev pub reads_in : Option (List Slot) → ℕ → Result ℕ BuildKind
 reads_in None page = Err kind.Absent
 reads_in (Some F) page = read_at (slice_get F page)
 
+-- the same for writing
 abbrev pub writes_in : Option (List Slot) → ℕ → Result ℕ BuildKind
 writes_in None page = Err kind.Absent
 writes_in (Some F) page = written_at (slice_get F page)
@@ -39,6 +42,7 @@ writes_in (Some F) page = written_at (slice_get F page)
 abbrev pub page_of : List ℕ → Known → ℕ → Result ℕ BuildKind
 page_of S k page = if nat_lt page k.pages then reads_in (map_of S k.path) page else Err kind.Outside
 
+-- whether a mark is that of a free page
 abbrev pub is_free : Mark → Bool
 is_free Free = true
 is_free Control = false
@@ -52,6 +56,7 @@ free_at marks g = is_free (slice_index_or marks g Control)
 abbrev pub if_free : List Mark → ℕ → Result ℕ BuildKind
 if_free marks g = if free_at marks g then Ok g else Err kind.Overlap
 
+-- the free bare page in which a page of a known machine can be reached
 abbrev pub free_page_of : List ℕ → List Mark → Known → ℕ → Result ℕ BuildKind
 free_page_of S marks k page = page_of S k page >>= if_free marks
 
@@ -95,10 +100,12 @@ page_named (Stopped way) = Err kind.Absent
 abbrev pub word_named : List Slot → ℕ → Looked → Result ℕ BuildKind
 word_named F i table = page_named table >>= λ u. read_at (slice_get F u) >>= λ g. Ok (1024 * g + i % 1024)
 
+-- the same where the child may not be there
 abbrev pub word_of_child : List ℕ → List Slot → ℕ → ℕ → Option Item → Result ℕ BuildKind
 word_of_child S F j i None = Err kind.Absent
 word_of_child S F j i (Some x) = word_named F i (table_of S (reading F) j x.table x.version i)
 
+-- the same for the child on page s of a parent that may have no map
 abbrev pub word_in_parent : List ℕ → Option (List Slot) → ℕ → ℕ → ℕ → Result ℕ BuildKind
 word_in_parent S None j s i = Err kind.Absent
 word_in_parent S (Some F) j s i = word_of_child S F j i (child_of S F s)

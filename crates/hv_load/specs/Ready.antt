@@ -12,6 +12,7 @@ pub record IsWatched (S : List ℕ) (harts : ℕ) (w : Watch) : Type 0 where
   pub machine : IsThere S (pin_of S w.path)
   pub bare : w.path ≡ [] → harts ≡ 1
 
+-- that holds of each watch
 abbrev pub EachWatched : List ℕ → ℕ → List Watch → Type 0
 EachWatched S harts [] = Unit {0}
 EachWatched S harts (w ∷ ws) = IsWatched S harts w × EachWatched S harts ws

@@ -24,6 +24,7 @@ abbrev pub level_name : ℕ → List ℕ
 level_name zero = codes "root"
 level_name (suc k) = codes "t" ++ decimal (suc k)
 
+-- the words of an assembled text, none where it is refused
 abbrev pub words_if : Result (List ℕ) (ℕ × AsmKind) → List ℕ
 words_if (Ok words) = words
 words_if (Err fault) = []
@@ -52,5 +53,6 @@ levels_from line n which k zero = []
 levels_from line n which k (suc levels) =
     level_machine line k (grown levels n) ∷ level_sample line k which ∷ levels_from line n which (suc k) levels
 
+-- the lines of a tower from the bare machine on
 abbrev pub tower_of : (depth pages : ℕ) → Sample → (line : ℕ) → List Placed
 tower_of depth pages which line = levels_from line pages which 0 depth

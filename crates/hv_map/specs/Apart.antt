@@ -22,6 +22,7 @@ abbrev pub open_page : Way → List ℕ
 open_page (Open g) = g ∷ []
 open_page (Shut l c p w) = []
 
+-- the same of a way, if there is one
 abbrev pub open_page_if : Option Way → List ℕ
 open_page_if None = []
 open_page_if (Some way) = open_page way
@@ -57,6 +58,7 @@ tables_along S F j [] = []
 tables_along S F j (x ∷ xs) =
     (directory_of F x ++ tables_of S F j x) ++ tables_along S (compose S F j x.pages x.table x.version) (j + 1) xs
 
+-- the bare pages of the blocks of the machines on the way
 abbrev pub blocks_of : List Item → List ℕ
 blocks_of items = map (λ (x : Item). x.block) items
 

@@ -24,6 +24,7 @@ IsCarried k F a h (Shut l c p w) = h ≡ Shut (l + k) c p w
 abbrev pub WayLike : ℕ → List Slot → Access → Way → Way → Type 0
 WayLike k F a h g = IsShutBelow k h ⊎ IsCarried k F a h g
 
+-- the same of the three ways of two slots; where one map has no such page, the other has none
 abbrev pub SlotLike : ℕ → List Slot → Option Slot → Option Slot → Type 0
 SlotLike k F None None = Unit {0}
 SlotLike k F None (Some g) = ⊥

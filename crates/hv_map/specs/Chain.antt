@@ -28,10 +28,12 @@ child_with s g None = None
 child_with s g (Some contents) =
     Some record { syllable = s; block = g; pages = contents.pages; table = contents.table; version = contents.version }
 
+-- the child whose block is behind a parent's way for writing, where that is open
 abbrev pub child_through : List ℕ → ℕ → Way → Option Item
 child_through S s (Open g) = child_with s g (block_of S g)
 child_through S s (Shut l c p w) = None
 
+-- the same with the slot of the block's page, where the parent has that page
 abbrev pub child_at : List ℕ → ℕ → Option Slot → Option Item
 child_at S s None = None
 child_at S s (Some slot) = child_through S s slot.write
@@ -41,6 +43,7 @@ child_at S s (Some slot) = child_through S s slot.write
 abbrev pub child_of : List ℕ → List Slot → ℕ → Option Item
 child_of S F s = child_at S s (slice_get F s)
 
+-- one machine in front of those further in, if these are there
 abbrev pub option_cons : Item → Option (List Item) → Option (List Item)
 option_cons x None = None
 option_cons x (Some xs) = Some (x ∷ xs)
@@ -71,6 +74,7 @@ abbrev pub child_next : List ℕ → List Slot → ℕ → Option Item
 child_next S F zero = None
 child_next S F (suc s) = child_of S F (suc s)
 
+-- the path from a machine on: empty where it runs no child, else the child's page and the path from the child on
 abbrev pub run_on : (List ℕ → List Slot → ℕ → Regs → List ℕ) → List ℕ → List Slot → ℕ → Option Item → List ℕ
 run_on deeper S F j None = []
 run_on deeper S F j (Some x) =

@@ -20,11 +20,12 @@ pub data Looked : Type 0 where
   Named : ℕ → Looked
   Stopped : Way → Looked
 
--- The directory or table word k of a page of the parent, for the child's page i, where the parent's way for reading
--- that page is given, none where the parent has no such page. A way that is shut says which word couldn't be read.
+-- a directory or table word that was read for the child's page i: its bit 0 says whether it is present
 abbrev pub present : ℕ → ℕ → ℕ → Looked
 present j i w = if w % 2 == 0 then Stopped (Shut j 1 i None) else Named w
 
+-- The directory or table word k of a page of the parent, for the child's page i, where the parent's way for reading
+-- that page is given, none where the parent has no such page. A way that is shut says which word couldn't be read.
 abbrev pub look : List ℕ → ℕ → ℕ → ℕ → Option Way → Looked
 look S j i k None = Stopped (Shut j 4 i None)
 look S j i k (Some (Open g)) = present j i (word_at S g k)
@@ -41,6 +42,7 @@ abbrev pub table_of : List ℕ → (ℕ → Option Way) → ℕ → ℕ → ℕ 
 table_of S reads j t v i =
     if v == 2 then page_named (look S j i (i / 1024) (reads t)) else Named (t + i / 1024)
 
+-- the table word of page i, in the page u of the table where that is named
 abbrev pub word_in : List ℕ → (ℕ → Option Way) → ℕ → ℕ → Looked → Looked
 word_in S reads j i (Named u) = look S j i (i % 1024) (reads u)
 word_in S reads j i (Stopped way) = Stopped way
@@ -53,6 +55,7 @@ entry_of S reads j t v i = word_in S reads j i (table_of S reads j t v i)
 abbrev pub no_write : ℕ → Bool
 no_write e = e / 2 % 2 == 0
 
+-- the same of fetching, which only version 2 denies
 abbrev pub no_fetch : ℕ → ℕ → Bool
 no_fetch v e = (v == 2) && (e / 4 % 2 == 0)
 
@@ -68,10 +71,12 @@ granted j v i e s = record {
   fetch = (if no_fetch v e then Shut j 7 i None else s.fetch);
 }
 
+-- the same where the parent may have no such page: then each way is shut with cause 3
 abbrev pub slot_through : ℕ → ℕ → ℕ → ℕ → Option Slot → Slot
 slot_through j v i e None = every (Shut j 3 i None)
 slot_through j v i e (Some s) = granted j v i e s
 
+-- the slot of the child's page i by what was found of its entry, where F is the parent's map
 abbrev pub slot_of : List Slot → ℕ → ℕ → ℕ → Looked → Slot
 slot_of F j v i (Stopped way) = every way
 slot_of F j v i (Named e) = slot_through j v i e (slice_get F (field_of e 12 20))

@@ -17,10 +17,12 @@ found_in g None = Malformed g
 found_in g (Some contents) =
     Child g record { cpu = contents.regs; pages = contents.pages; table = contents.table; version = contents.version }
 
+-- what is found behind a way for writing: a child, or the refusal of that way
 abbrev pub found_through : List ℕ → Way → Found
 found_through S (Open g) = found_in g (block_of S g)
 found_through S (Shut l c p w) = Refused (refused l c p w 0 Write)
 
+-- the same with the slot of the page, none where there is no such page
 abbrev pub found_at : List ℕ → Option Slot → Option Found
 found_at S None = None
 found_at S (Some slot) = Some (found_through S slot.write)

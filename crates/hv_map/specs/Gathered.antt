@@ -26,6 +26,7 @@ abbrev pub pages_gathered : Option Gathered → List ℕ
 pages_gathered None = []
 pages_gathered (Some n) = n.pages
 
+-- what is read to find page u of the machine with the map N
 abbrev pub pages_read : List Gathered → ℕ → List ℕ
 pages_read N u = pages_gathered (slice_get N u)
 
@@ -35,6 +36,7 @@ pages_through gs None = gs
 pages_through gs (Some (Open g)) = gs ++ g ∷ []
 pages_through gs (Some (Shut l c p w)) = gs
 
+-- what is read for a word of page u of it
 abbrev pub word_pages : List Gathered → ℕ → List ℕ
 word_pages N u = pages_through (pages_read N u) (reading (slots_of N) u)
 
@@ -43,10 +45,12 @@ word_pages N u = pages_through (pages_read N u) (reading (slots_of N) u)
 abbrev pub directory_pages : List Gathered → ℕ → ℕ → List ℕ
 directory_pages N t v = if v == 2 then word_pages N t else []
 
+-- what is read for the table word once its page is named
 abbrev pub table_word_pages : List Gathered → Looked → List ℕ
 table_word_pages N (Named u) = word_pages N u
 table_word_pages N (Stopped way) = []
 
+-- both, in the order of reading
 abbrev pub entry_pages : List ℕ → List Gathered → ℕ → ℕ → ℕ → ℕ → List ℕ
 entry_pages S N j t v i =
     directory_pages N t v ++ table_word_pages N (table_of S (reading (slots_of N)) j t v i)
@@ -71,6 +75,7 @@ gathered_map S N j n t v = map (gathered_slot S N j t v) (range_with_len 0 n)
 abbrev pub bare_gathered : ℕ → Gathered
 bare_gathered g = record { slot = open_at g; pages = [] }
 
+-- the map of the bare machine with P pages
 unfoldable pub bare_gathered_map : ℕ → List Gathered
 bare_gathered_map P = map bare_gathered (range_with_len 0 P)
 
@@ -93,6 +98,7 @@ block_pages S N j [] = []
 block_pages S N j (x ∷ xs) =
     pages_read N x.syllable ++ block_pages S (gathered_map S N j x.pages x.table x.version) (j + 1) xs
 
+-- the same from the bare machine on
 unfoldable pub pin_pages : List ℕ → List Item → List ℕ
 pin_pages S items = block_pages S (bare_gathered_map (page_count S)) 0 items
 
@@ -105,6 +111,7 @@ pub record Listed : Type 0 where
   pub pages : List ℕ
   pub full : Bool
 
+-- the list before any page is added
 abbrev pub no_pages : Listed
 no_pages = record { pages = []; full = false }
 

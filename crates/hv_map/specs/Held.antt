@@ -23,6 +23,7 @@ Lists p gs = AllByRecursion (λ g. has g p.pages ≡ true) gs
 abbrev pub SamePage : List ℕ → List ℕ → ℕ → Type 0
 SamePage S T g = (k : ℕ) → k < 1024 → word_at S g k ≡ word_at T g k
 
+-- each of some pages has the same words in two storages
 abbrev pub SamePages : List ℕ → List ℕ → List ℕ → Type 0
 SamePages S T gs = AllByRecursion (SamePage S T) gs
 
@@ -30,6 +31,7 @@ SamePages S T gs = AllByRecursion (SamePage S T) gs
 abbrev pub SaysItem : List ℕ → Item → Type 0
 SaysItem S x = child_with x.syllable x.block (block_of S x.block) ≡ Some x
 
+-- each item's block says what the item does
 abbrev pub SaysItems : List ℕ → List Item → Type 0
 SaysItems S items = AllByRecursion (SaysItem S) items
 

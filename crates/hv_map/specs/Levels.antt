@@ -20,9 +20,11 @@ map_at S items k = map_along S (take k items)
 abbrev pub table_at : List ℕ → List Item → ℕ → Item → ℕ → Looked
 table_at S items k x i = table_of S (reading (map_at S items k)) k x.table x.version i
 
+-- the entry of page i of a child x of the machine at level k
 abbrev pub entry_at : List ℕ → List Item → ℕ → Item → ℕ → Looked
 entry_at S items k x i = entry_of S (reading (map_at S items k)) k x.table x.version i
 
+-- the slot of that page
 abbrev pub child_slot_at : List ℕ → List Item → ℕ → Item → ℕ → Slot
 child_slot_at S items k x i = slot_of (map_at S items k) k x.version i (entry_at S items k x i)
 
@@ -30,6 +32,7 @@ child_slot_at S items k x i = slot_of (map_at S items k) k x.version i (entry_at
 abbrev pub has_directory : Item → Bool
 has_directory x = x.version == 2
 
+-- whether they are found without one
 abbrev pub has_table_alone : Item → Bool
 has_table_alone x = not (x.version == 2)
 
@@ -38,6 +41,7 @@ has_table_alone x = not (x.version == 2)
 abbrev pub reads_bound : List Item → ℕ
 reads_bound items = 2 ^ count_by has_table_alone items * 3 ^ count_by has_directory items
 
+-- the same of the first k machines
 unfoldable pub reads_at : List Item → ℕ → ℕ
 reads_at items k = reads_bound (take k items)
 
@@ -46,6 +50,7 @@ abbrev pub IsWayWithin : ℕ → ℕ → Way → Type 0
 IsWayWithin P k (Open g) = g < P
 IsWayWithin P k (Shut l c p w) = (l < k) × (p < 2 ^ 20) × IfSome w (λ n. n < 1024)
 
+-- the same of the three ways of a slot
 abbrev pub IsSlotWithin : ℕ → ℕ → Slot → Type 0
 IsSlotWithin P k s = IsWayWithin P k s.read × IsWayWithin P k s.write × IsWayWithin P k s.fetch
 

@@ -11,6 +11,7 @@ unfoldable pub words_of : List ℕ → ℕ → Way → List ℕ
 words_of S n (Open g) = map (word_at S g) (range_with_len 0 n)
 words_of S n (Shut l c p w) = replicate n 0
 
+-- all words of that page
 abbrev pub page_of : List ℕ → Way → List ℕ
 page_of S way = words_of S 1024 way
 

@@ -23,6 +23,7 @@ refuses v e Read = Bool.false
 refuses v e Write = no_write e
 refuses v e Fetch = no_fetch v e
 
+-- the cause of such a refusal
 abbrev pub refusal_cause : Access → ℕ
 refusal_cause Write = 2
 refusal_cause a = 7
@@ -39,6 +40,7 @@ go_out outer m j v i a (Named e) =
 abbrev pub outer_reading : (ℕ → Access → Way) → ℕ → ℕ → Option Way
 outer_reading outer m page = if nat_lt page m then Some (outer page Read) else None
 
+-- the way of page i of the child x for an access, by its entry and the ways of its parent
 abbrev pub step_out : List ℕ → (ℕ → Access → Way) → ℕ → ℕ → Item → ℕ → Access → Way
 step_out S outer m j x i a =
     go_out outer m j x.version i a (entry_of S (outer_reading outer m) j x.table x.version i)
@@ -58,6 +60,7 @@ abbrev pub pages_out : (ℕ → List ℕ) → ℕ → Looked → List ℕ
 pages_out outer m (Stopped way) = []
 pages_out outer m (Named e) = if nat_lt (field_of e 12 20) m then outer (field_of e 12 20) else []
 
+-- the same for page i of the machine at the end of the items, the innermost first
 unfoldable pub trail_pages : List ℕ → ℕ → List Item → ℕ → List ℕ
 trail_pages S P [] i = i ∷ []
 trail_pages S P (x ∷ xs) i =

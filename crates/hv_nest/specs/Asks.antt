@@ -19,6 +19,7 @@ use Rattle.hv_sv32.specs.Walk.{is_bare, walk_of}
 use Rattle.hv_exec.specs.Answer.{Answer, Next, Trap, Load, Store, Enter}
 use Rattle.hv_exec.specs.Do.{do_of}
 
+-- a page of the machine, a word in it, and what it is asked for
 pub record Ask : Type 0 where
   pub page : ℕ
   pub word : ℕ
@@ -68,15 +69,18 @@ answer_asks S F r (Load address width signed rd) = address_asks S F r address Re
 answer_asks S F r (Store address width v) = address_asks S F r address Write
 answer_asks S F r (Enter value) = enter_ask value
 
+-- the same by what the fetched word decodes to; a word that is no instruction asks for nothing
 abbrev pub decoded_asks : List ℕ → List Slot → ℕ → Regs → ℕ → Option Instr → List Ask
 decoded_asks S F hart r w None = []
 decoded_asks S F hart r w (Some i) = answer_asks S F r (do_of i w r hart)
 
+-- the same by what the fetch gave
 abbrev pub fetched_asks : List ℕ → List Slot → ℕ → Regs → Option (Result ℕ Refusal) → List Ask
 fetched_asks S F hart r None = []
 fetched_asks S F hart r (Some (Err e)) = []
 fetched_asks S F hart r (Some (Ok w)) = decoded_asks S F hart r w (decode_of w)
 
+-- the same by what the walk of the program counter came to
 abbrev pub found_asks : List ℕ → List Slot → ℕ → Regs → Walked → List Ask
 found_asks S F hart r (Found page offset) = fetched_asks S F hart r (get S F page (offset / 4) Fetch)
 found_asks S F hart r (TrapWith cause tval) = []
@@ -92,6 +96,7 @@ abbrev pub refusal_through : Way → ℕ → Access → Option Refusal
 refusal_through (Open g) k a = None
 refusal_through (Shut l c p w) k a = Some (refused l c p w k a)
 
+-- what a slot refuses; nothing where there is no such page
 abbrev pub refusal_at : Option Slot → ℕ → Access → Option Refusal
 refusal_at None k a = None
 refusal_at (Some slot) k a = refusal_through (way_for slot a) k a

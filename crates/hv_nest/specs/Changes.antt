@@ -8,6 +8,7 @@ abbrev pub difference_at : List ℕ → List ℕ → ℕ → List ChangedRow
 difference_at S T a =
     if slice_index S a == slice_index T a then [] else record { at = a; value = slice_index T a } ∷ []
 
+-- the same of the first n places
 unfoldable pub differences_to : List ℕ → List ℕ → ℕ → List ChangedRow
 differences_to S T n = flat_map (difference_at S T) (range_with_len 0 n)
 

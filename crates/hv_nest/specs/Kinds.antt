@@ -6,6 +6,7 @@ use Rattle.hv_nest.specs.declared.outcome.StepKind.{StepKind}
 use Rattle.hv_nest.specs.declared.outcome.StepKind.TheVariants.{Worked as WorkedKind, Recall, Fault}
 use Rattle.hv_nest.specs.Step.{Stepped, Worked, Recalled, Faulted, Barred}
 
+-- a kind, a storage and registers as the definition of the step tells them
 abbrev pub step_as : StepKind → List ℕ → Regs → Stepped
 step_as WorkedKind S r = Worked S r
 step_as (Recall l) S r = Recalled l S r

@@ -8,6 +8,7 @@ use Rattle.hv_nest.specs.declared.outcome.StepKind.TheVariants.{Worked as Worked
 use Rattle.hv_nest.specs.State.{State}
 use Rattle.hv_nest.specs.Step.{Stepped, Worked, Recalled, Faulted, Barred, host_step_of}
 
+-- a move
 pub data Move : Type 0 where
   StepOf : (hart : ℕ) → Move
   LinesOf : (hart mask : ℕ) → Move
@@ -28,6 +29,7 @@ moved_by st hart (Recalled l S r) = record { kind = Recall l; state = with_hart 
 moved_by st hart (Faulted l c address a S r) = record { kind = Fault l c address a; state = with_hart st S hart r }
 moved_by st hart (Barred e) = record { kind = WorkedKind; state = st }
 
+-- the same for a hart with the registers r, or for none: then nothing changes
 abbrev pub moved_at : State → ℕ → Option Regs → Moved
 moved_at st hart None = record { kind = WorkedKind; state = st }
 moved_at st hart (Some r) = moved_by st hart (host_step_of st.storage hart r)
@@ -36,6 +38,7 @@ moved_at st hart (Some r) = moved_by st hart (host_step_of st.storage hart r)
 abbrev pub moved_of : State → ℕ → Moved
 moved_of st hart = moved_at st hart (slice_get st.harts hart)
 
+-- the same for a hart with the registers r, or for none
 abbrev pub lined_at : State → ℕ → ℕ → Option Regs → State
 lined_at st hart mask None = st
 lined_at st hart mask (Some r) = with_hart st st.storage hart (lined_of r mask)
@@ -44,6 +47,7 @@ lined_at st hart mask (Some r) = with_hart st st.storage hart (lined_of r mask)
 abbrev pub lined_state : State → ℕ → ℕ → State
 lined_state st hart mask = lined_at st hart mask (slice_get st.harts hart)
 
+-- the state after a move
 abbrev pub state_after : State → Move → State
 state_after st (StepOf hart) = (moved_of st hart).state
 state_after st (LinesOf hart mask) = lined_state st hart mask
@@ -53,6 +57,7 @@ unfoldable pub last_of : State → List Move → State
 last_of st [] = st
 last_of st (move ∷ moves) = last_of (state_after st move) moves
 
+-- the running path of a hart with the registers r; none where there is no such hart
 abbrev pub running_at : List ℕ → Option Regs → List ℕ
 running_at S None = []
 running_at S (Some r) = running_path S r

@@ -8,6 +8,7 @@ unfoldable pub undone : List ℕ → List Note → List ℕ
 undone T [] = T
 undone T (n ∷ notes) = slice_set (undone T notes) n.at n.before
 
+-- whether a place is noted
 abbrev pub is_noted : ℕ → List Note → Bool
 is_noted a notes = list_any (λ (n : Note). n.at == a) notes
 

@@ -66,6 +66,7 @@ IsFault fault cause receiver = IsSomeAnd fault (λ e. (e.cause ≡ cause) × (e.
 abbrev pub is_map_cause : ℕ → Bool
 is_map_cause c = (nat_le 1 c && nat_le c 4) || (c == 7)
 
+-- there is a refusal, and it has such a cause
 abbrev pub IsMapFault : Option Refusal → Type 0
 IsMapFault fault = IsSomeAnd fault (λ e. IsTrue (is_map_cause e.cause))
 

@@ -41,6 +41,7 @@ idle r = record r { next = 0 }
 abbrev pub interrupt_of : List ℕ → ℕ → Regs → ℕ → Stepped
 interrupt_of S j r k = if r.next == 0 then Worked S (take_trap_of r k true 0) else Recalled j S (idle r)
 
+-- an instruction as a step of the machine that makes it
 abbrev pub act_step : Acted → Stepped
 act_step (Done S r) = Worked S r
 act_step (Refused e) = Barred e
@@ -74,6 +75,7 @@ child_step deeper S F j r g None = tell_of S j r g (malformed j r.next)
 child_step deeper S F j r g (Some contents) =
     put_back S j r g (deeper S (compose S F j contents.pages contents.table contents.version) (j + 1) 0 contents.regs)
 
+-- the same through the way for writing of the block's page, which may be shut
 abbrev pub child_through : Machine → List ℕ → List Slot → ℕ → Regs → Way → Stepped
 child_through deeper S F j r (Open g) = child_step deeper S F j r g (block_of S g)
 child_through deeper S F j r (Shut l c p w) = Barred (refused l c p w 0 Write)
@@ -84,18 +86,22 @@ abbrev pub child_at : Machine → List ℕ → List Slot → ℕ → Regs → Op
 child_at deeper S F j r None = Barred (too_deep r.next)
 child_at deeper S F j r (Some slot) = child_through deeper S F j r slot.write
 
+-- the child makes the step, unless the machine is at the deepest level
 abbrev pub next_step : Option Machine → List ℕ → List Slot → ℕ → Regs → Stepped
 next_step None S F j r = Barred (too_deep r.next)
 next_step (Some deeper) S F j r = child_at deeper S F j r (slice_get F r.next)
 
+-- a step without an interrupt: an instruction of the machine's own, or the step of its child
 abbrev pub quiet_step : Option Machine → List ℕ → List Slot → ℕ → ℕ → Regs → Stepped
 quiet_step deeper S F j hart r =
     if r.next == 0 then act_step (act_of S F hart r) else next_step deeper S F j r
 
+-- a step where the pending interrupt is given, if there is one
 abbrev pub step_on : Option Machine → List ℕ → List Slot → ℕ → ℕ → Regs → Option ℕ → Stepped
 step_on deeper S F j hart r (Some k) = interrupt_of S j r k
 step_on deeper S F j hart r None = quiet_step deeper S F j hart r
 
+-- a step of a machine, where `deeper` makes those of its children
 abbrev pub step_with : Option Machine → Machine
 step_with deeper S F j hart r = step_on deeper S F j hart r (pending_of r)
 

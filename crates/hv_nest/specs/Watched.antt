@@ -51,6 +51,7 @@ item_foot S F j x =
     places_of : List ℕ → ℕ → List ℕ
     places_of gs k = map (λ g. 1024 * g + k) gs
 
+-- the same of all machines on the way
 unfoldable pub chain_foot : List ℕ → List Slot → ℕ → List Item → List ℕ
 chain_foot S F j [] = []
 chain_foot S F j (x ∷ xs) = item_foot S F j x ++ chain_foot S (compose S F j x.pages x.table x.version) (j + 1) xs
@@ -90,6 +91,7 @@ unfoldable pub are_same : List ℕ → List ℕ → List ℕ → Bool
 are_same [] S T = true
 are_same (a ∷ rest) S T = (slice_index S a == slice_index T a) && are_same rest S T
 
+-- word 42 of the last block, which is mip, is the same but for the lines
 abbrev pub same_status : Option ℕ → List ℕ → List ℕ → Bool
 same_status None S T = true
 same_status (Some g) S T = unlined (word_at S g 42) == unlined (word_at T g 42)
@@ -104,6 +106,7 @@ abbrev pub lines_at : Option Regs → ℕ
 lines_at None = 0
 lines_at (Some r) = lines r.mip
 
+-- the interrupt lines of the machine at the end of the items: those in its block, or those of the hart
 abbrev pub lines_of : ℕ → List Item → State → ℕ
 lines_of h [] st = lines_at (slice_get st.harts h)
 lines_of h (x ∷ xs) st = lines_in (last_block (x ∷ xs)) st.storage
@@ -123,6 +126,7 @@ pub record Tally : Type 0 where
   pub changes : List LineChange
   pub touched : Bool
 
+-- the tally before any move
 abbrev pub no_tally : Tally
 no_tally = record { count = 0; changes = []; touched = false }
 
@@ -140,6 +144,7 @@ tally_after h p items ft st move t =
     if is_counted h p st move then record t { count = t.count + 1 }
     else beside h items ft st (state_after st move) t
 
+-- the tally after some moves more
 unfoldable pub tally_of : ℕ → List ℕ → List Item → List ℕ → State → List Move → Tally → Tally
 tally_of h p items ft st [] t = t
 tally_of h p items ft st (move ∷ moves) t =

@@ -35,10 +35,12 @@ twin_state start w F = bare_of (seen start.storage F) (watched_regs start w.hart
 abbrev pub bare_words : State → WatchRecord → List Slot → List ℕ
 bare_words start w F = machine_words (twin_state start w F) 0 None
 
+-- the words of the bare machine, where one is run
 abbrev pub twin_words : State → WatchRecord → Option (List ℕ)
 twin_words start w =
     if has_twin w then option_map (bare_words start w) (map_of start.storage w.path) else None
 
+-- their lines, or that there is none
 abbrev pub twin_text : WatchRecord → Option (List ℕ) → List ℕ
 twin_text w None = line (codes "twin none")
 twin_text w (Some words) = machine_lines w.count words w.lines
@@ -47,9 +49,11 @@ twin_text w (Some words) = machine_lines w.count words w.lines
 abbrev pub checked_text : WatchRecord → Option (List ℕ) → List ℕ
 checked_text w words = watch_line w ++ twin_text w words
 
+-- the same of a watch in a play from this start
 abbrev pub checked_watch : State → WatchRecord → List ℕ
 checked_watch start w = checked_text w (twin_words start w)
 
+-- the same of all watches
 unfoldable pub checked_watches : State → List WatchRecord → List ℕ
 checked_watches start watches = flat_map (checked_watch start) watches
 

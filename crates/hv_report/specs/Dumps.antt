@@ -62,6 +62,7 @@ abbrev pub page_read : List ℕ → List ℕ → ℕ → Option ℕ
 page_read S path i =
     option_and_then (λ (F : List Slot). option_and_then opened_page (reading F i)) (map_of S path)
 
+-- the lines of a page that can be read, and the line of one that can't
 abbrev pub page_text : List ℕ → Option ℕ → List ℕ
 page_text S None = line (codes "absent")
 page_text S (Some g) = page_lines S g
@@ -71,5 +72,6 @@ abbrev pub dump_text : List ℕ → Dump → List ℕ
 dump_text S d =
     line (codes "dump " ++ d.name ++ codes " " ++ decimal d.page) ++ page_text S (page_read S d.path d.page)
 
+-- all pages that are shown
 unfoldable pub dumps_text : List ℕ → List Dump → List ℕ
 dumps_text S dumps = flat_map (dump_text S) dumps

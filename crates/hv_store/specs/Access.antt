@@ -37,6 +37,7 @@ abbrev pub read_through : List ℕ → Way → ℕ → Access → Result ℕ Ref
 read_through S (Open g) k a = Ok (word_at S g k)
 read_through S (Shut l c p w) k a = Err (refused l c p w k a)
 
+-- the same through a slot; none where there is no such page
 abbrev pub get_at : List ℕ → Option Slot → ℕ → Access → Option (Result ℕ Refusal)
 get_at S None k a = None
 get_at S (Some s) k a = Some (read_through S (way_for s a) k a)
@@ -51,6 +52,7 @@ abbrev pub write_through : List ℕ → Way → ℕ → Lane → ℕ → Result 
 write_through S (Open g) k lane v = Ok (with_word S g k (lane_with (word_at S g k) lane v))
 write_through S (Shut l c p w) k lane v = Err (refused l c p w k Write)
 
+-- the same through a slot
 abbrev pub put_at : List ℕ → Option Slot → ℕ → Lane → ℕ → Option (Result (List ℕ) Refusal)
 put_at S None k lane v = None
 put_at S (Some s) k lane v = Some (write_through S s.write k lane v)
@@ -64,10 +66,12 @@ set S F page k lane v = put_at S (slice_get F page) k lane v
 abbrev pub without_fault : List ℕ → ℕ → List ℕ
 without_fault S g = with_word (with_word (with_word S g 72 0) g 73 0) g 74 0
 
+-- the same through a way
 abbrev pub clear_through : List ℕ → Way → Result (List ℕ) Refusal
 clear_through S (Open g) = Ok (without_fault S g)
 clear_through S (Shut l c p w) = Err (refused l c p w 72 Write)
 
+-- the same through a slot
 abbrev pub cleared_at : List ℕ → Option Slot → Option (Result (List ℕ) Refusal)
 cleared_at S None = None
 cleared_at S (Some s) = Some (clear_through S s.write)

@@ -52,6 +52,7 @@ page_of e = field_of e 10 22
 abbrev pub data_mode : Regs → ℕ
 data_mode r = if has_bit r.mstatus 17 then field_of r.mstatus 11 2 else r.mode
 
+-- the mode that an access is made in
 abbrev pub effective_mode : Regs → Access → ℕ
 effective_mode r Fetch = r.mode
 effective_mode r Read = data_mode r

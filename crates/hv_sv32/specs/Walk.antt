@@ -23,9 +23,11 @@ access_fault_of Fetch = 1
 access_fault_of Read = 5
 access_fault_of Write = 7
 
+-- the page fault of an access
 abbrev pub barred : ℕ → Access → Walked
 barred address a = TrapWith (page_fault_of a) address
 
+-- the access fault of an access
 abbrev pub outside : ℕ → Access → Walked
 outside address a = TrapWith (access_fault_of a) address
 
@@ -40,6 +42,7 @@ at_second F r address a e =
     else if is_leaf e && grants r a e then located F (page_of e) address a
     else barred address a
 
+-- the same by what reading it gave
 abbrev pub from_second : List Slot → Regs → ℕ → Access → Option (Result ℕ Refusal) → Walked
 from_second F r address a None = outside address a
 from_second F r address a (Some (Err refusal)) = RefusedBy refusal
@@ -62,6 +65,7 @@ at_first S F r address a e =
     else if is_plain e then through_second S F r (page_of e) address a
     else barred address a
 
+-- the same by what reading it gave
 abbrev pub from_first : List ℕ → List Slot → Regs → ℕ → Access → Option (Result ℕ Refusal) → Walked
 from_first S F r address a None = outside address a
 from_first S F r address a (Some (Err refusal)) = RefusedBy refusal

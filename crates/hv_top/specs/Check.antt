@@ -29,6 +29,7 @@ abbrev pub built_state : Result Start (ℕ × BuildKind) → State
 built_state (Ok start) = state_of start
 built_state (Err end) = record { storage = []; harts = [] }
 
+-- the same of a job, as it is built
 unfoldable pub start_state : Job → State
 start_state job = built_state (build_of job)
 

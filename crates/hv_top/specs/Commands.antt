@@ -35,6 +35,7 @@ abbrev pub reads : Result Command Usage → Bool
 reads (Ok command) = reads_input command
 reads (Err usage) = false
 
+-- P holds of what is read for a command: of the input, or of nothing
 abbrev pub OnReadInput : Bool → Option (List ℕ) → (List ℕ → Type 0) → Type 0
 OnReadInput true left P = IfSome left P
 OnReadInput false left P = P []

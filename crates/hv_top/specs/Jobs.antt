@@ -11,6 +11,7 @@ use Rattle.hv_load.specs.Kinds.{kind_word as build_word}
 use Rattle.hv_load.specs.declared.start.Start.{Start}
 use Rattle.hv_top.specs.Output.{Output, Text, refusal}
 
+-- what is told of a built job, or the line that refuses it
 abbrev pub built_output : (Job → Start → List ℕ) → Job → Result Start (ℕ × BuildKind) → Output
 built_output tell job (Ok start) = Text (tell job start)
 built_output tell job (Err (number, kind)) = refusal number (build_word kind)
@@ -19,6 +20,7 @@ built_output tell job (Err (number, kind)) = refusal number (build_word kind)
 abbrev pub started_output : (Job → Start → List ℕ) → Job → Output
 started_output tell job = built_output tell job (build_of job)
 
+-- what is told of a text's job, or the line that refuses the text
 abbrev pub parsed_output : (Job → Start → List ℕ) → Result Job (ℕ × JobKind) → Output
 parsed_output tell (Ok job) = started_output tell job
 parsed_output tell (Err (number, kind)) = refusal number (kind_word kind)

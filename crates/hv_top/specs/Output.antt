@@ -9,6 +9,7 @@ pub data Output : Type 0 where
   Text : List ℕ → Output
   Refusal : List ℕ → Output
 
+-- its bytes
 abbrev pub text_of : Output → List ℕ
 text_of (Text text) = text
 text_of (Refusal text) = text

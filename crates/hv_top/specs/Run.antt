@@ -41,6 +41,7 @@ pub record PlayIsPromised (moves : List Move) (start : Start) : Type 0 where
   pub shown : AreShown (state_of start) moves (watches_of start.plan.watches)
   pub routed : FaultsAreRouted (state_of start) moves
 
+-- the same of a start; nothing is promised where there is none
 abbrev pub StartIsPromised : List Move → Result Start (ℕ × BuildKind) → Type 0
 StartIsPromised moves (Ok start) = PlayIsPromised moves start
 StartIsPromised moves (Err refusal) = Unit {0}
@@ -49,6 +50,7 @@ StartIsPromised moves (Err refusal) = Unit {0}
 unfoldable pub JobIsPromised : Job → Type 0
 JobIsPromised job = StartIsPromised (schedule job.recording) (build_of job)
 
+-- the same of what a text is read to
 abbrev pub ParsedIsPromised : Result Job (ℕ × JobKind) → Type 0
 ParsedIsPromised (Ok job) = JobIsPromised job
 ParsedIsPromised (Err refusal) = Unit {0}

@@ -18,6 +18,7 @@ use Rattle.hv_run.specs.Stands.{EachWatch}
 abbrev pub text_alone : State → WatchOf → List Item → Tally → List ℕ
 text_alone start w items t = checked_watch start (watch_record w start items t)
 
+-- what the report writes of it
 abbrev pub text_reported : (start last : State) → WatchOf → List Item → Tally → List ℕ
 text_reported start last w items t = watch_text last (watch_record w start items t)
 
@@ -43,5 +44,6 @@ IsShown start moves w =
     → (tally_over start moves w items).touched ≡ false
     → IsShownBy start (last_of start moves) w items (tally_over start moves w items)
 
+-- that holds of each watch
 abbrev pub AreShown : State → List Move → List WatchOf → Type 0
 AreShown start moves watches = EachWatch (IsShown start moves) watches

@@ -30,6 +30,7 @@ tally_of_steps D S items n = tally_of 0 (replicate D 1) items (foot S items) (st
 abbrev pub is_too_deep : List ℕ → ℕ → Bool
 is_too_deep S n = list_any (λ (f : FaultRecord). f.cause == 5) (count_of (start_of S) (steps n) no_count).faults
 
+-- what is so of the play of a tower of D levels over S, beside the bare machine over T, for m steps of the top
 pub record TowerPlayed (D : ℕ) (S T : List ℕ) (items : List Item) (m : ℕ) : Type 0 where
   pub one : is_one S items ≡ true
   pub apart : is_apart S items ≡ true
@@ -42,5 +43,6 @@ pub record TowerPlayed (D : ℕ) (S T : List ℕ) (items : List Item) (m : ℕ) 
       ⊎ (((tally_of_steps D S items (3 * D + m)).count ≡ m)
       × Alike 0 items (map_along S items) (last_of (start_of S) (steps (3 * D + m))) (bare_of T reset_regs [] m))
 
+-- that holds of every tower that is laid
 abbrev pub TowerPlayLaw : Type 0
 TowerPlayLaw = (D N m : ℕ) (S T : List ℕ) (items : List Item) → Laid D N S T items → TowerPlayed D S T items m

@@ -21,6 +21,7 @@ IsTop (directive.Turn hart) = hart ≡ 0
 IsTop (directive.Watch hart name) = (hart ≡ 0) × (name ≡ codes "top")
 IsTop _ = ⊥
 
+-- the same of a line with its number
 abbrev pub IsTopLine : Placed → Type 0
 IsTopLine placed = IsTop placed.what
 

@@ -90,6 +90,7 @@ bare_move h p items st move =
     else (if lines_of h items st == lines_of h items (state_after st move) then []
     else LinesOf 0 (lines_of h items (state_after st move)) ∷ [])
 
+-- the same of some moves
 unfoldable pub bare_run : ℕ → List ℕ → List Item → State → List Move → List Move
 bare_run h p items st [] = []
 bare_run h p items st (move ∷ moves) = bare_move h p items st move ++ bare_run h p items (state_after st move) moves

@@ -40,6 +40,7 @@ abbrev pub IsMasked : Move → Type 0
 IsMasked (StepOf hart) = Unit {0}
 IsMasked (LinesOf hart mask) = bit_and mask lines_mask ≡ mask
 
+-- that holds of each move
 abbrev pub AreMasked : List Move → Type 0
 AreMasked [] = Unit {0}
 AreMasked (move ∷ moves) = IsMasked move × AreMasked moves

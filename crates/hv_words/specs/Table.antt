@@ -30,6 +30,7 @@ same_words [] (other ∷ others) = false
 same_words (word ∷ words) [] = false
 same_words (word ∷ words) (other ∷ others) = bytes_eq word other && same_words words others
 
+-- the refusal of the words
 abbrev pub usage : Usage
 usage = record {}
 
@@ -50,6 +51,7 @@ digits_number text =
 abbrev pub number_of : List ℕ → Option ℕ
 number_of word = if has_leading_zero word then None else digits_number word
 
+-- the command for a number, where it is one
 abbrev pub generating : Option ℕ → Result Command Usage
 generating (Some number) = Ok (Gen number)
 generating None = Err usage

@@ -24,6 +24,7 @@ use Rattle.hv_asm.specs.declared.AsmKind.{AsmKind}
 use Rattle.hv_asm.proofs.Named.{register_written}
 use Rattle.hv_asm.proofs.Written.{instr, IsControl, IsSigned}
 use Rattle.hv_asm.proofs.FormLines as asm
+use Rattle.hv_dis.proofs.Eights.{eight}
 use Rattle.hv_dis.specs.Dis.{access, based, branch, control, dis_of, hex, immediate, instr_line, jump, line_of, lower_digits, named, operands, pair, register, says_all, shift, signed, source, three, upper, upper_digits, word_line}
 
 -- what is found is in the list
@@ -260,7 +261,8 @@ instr_again i w base row said room = op_again i.op i.rd i.rs1 i.rs2 i.imm w base
 word_again : (w base : ℕ) → w < 2 ^ 32 → base + 4 ≤ 2 ^ 32 → asm_of (word_line w) base ≡ only w
 unfolding word_line upper_digits lower_digits
 word_again w base small room =
-    asm.word_line _ w base
+    ap (λ (digits : List ℕ). asm_of (codes ".word 0x" ++ digits) base) (sym (eight w small))
+    ∙ asm.word_line _ w base
     (eight_read w (field_of w 28 4) (field_of w 24 4) (field_of w 20 4) (field_of w 16 4) (field_of w 12 4) (field_of w 8 4) (field_of w 4 4) (field_of w 0 4)
     (omega arith) (omega arith) (omega arith) (omega arith) (omega arith) (omega arith) (omega arith) (omega arith) (omega arith) small)
     small room

@@ -1,6 +1,7 @@
 -- A word as a line of assembly, in the notation of the Unprivileged ISA's chapter 25 (registers as x0 to x31).
 use Rattle.std.specs.Prelude.{ℕ, ◌-◌, ◌/◌, ◌^◌, ◌==◌, nat_lt, Bool, true, false, if◌then◌else◌, List, [], ◌++◌, Option, Some, None, codes}
 use Rattle.std.specs.Fmt.{decimal, radix_digits}
+use Rattle.hv_text.specs.Text.{hex8}
 use Rattle.hv_word.specs.Words.{field_of}
 use Rattle.hv_isa.specs.Csrs.{csr_name_of}
 use Rattle.hv_isa.specs.Names.{name_of}
@@ -35,7 +36,7 @@ lower_digits w = digit w 12 ++ digit w 8 ++ digit w 4 ++ digit w 0
 
 -- the line of a word that is no instruction
 unfoldable pub word_line : ℕ → List ℕ
-word_line w = codes ".word 0x" ++ upper_digits w ++ lower_digits w
+word_line w = codes ".word 0x" ++ hex8 w
 
 -- a name, or the number where there is none
 abbrev pub named : ℕ → Option (List ℕ) → List ℕ

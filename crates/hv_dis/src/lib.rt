@@ -40,7 +40,7 @@ fn is_whole(op: Op, word: u32) -> bool
 }
 
 // Appends the line of a word that is no instruction's.
-#[tactic(auto, unfolding(crate::specs::Dis::word_line))]
+#[tactic(auto, using(crate::proofs::Eights::word_written))]
 fn put_word(out: &mut String, word: u32) -> Result<(), AllocError>
     ensures { OnOk result (string_bytes out.new ≡ string_bytes out.old ++ word_line word) }
 {

@@ -18,7 +18,7 @@ use std::sync::ledger::Ledger;
 /// pages of tables and directories whose words are read, and that aren't in `tables` yet, are added to it in the order of
 /// first reading.
 #[tactic(auto, using(crate::proofs::Levels::chains, crate::proofs::GatheredMaps::gathered_chains))]
-pub fn resolve_gathering<L: Ledger>(
+pub fn resolve_noting<L: Ledger>(
     store: &Store,
     chain: &Chain,
     page: u32,

@@ -8,7 +8,7 @@ ghost use Rattle.hv_map.specs.Gathered.{gathered_along, pages_read, pin_pages, w
 
 use crate::chain::Chain;
 use crate::found::{Found, child, through};
-use crate::gathering::resolve_gathering;
+use crate::gathering::resolve_noting;
 use crate::pages::Pages;
 use crate::path::Path;
 use hv_store::{Steps, Store};
@@ -37,7 +37,7 @@ pub fn pin(store: &Store, path: &Path) -> Option<Chain>
 /// The same, and where there are such machines, the bare pages of tables and directories whose words are read to find their
 /// blocks, and that aren't in `tables` yet, are added to it in the order of first reading.
 #[tactic(auto, using(crate::proofs::Pins::pins))]
-pub fn pin_gathering(store: &Store, path: &Path, tables: &mut Pages) -> Option<Chain>
+pub fn pin_noting(store: &Store, path: &Path, tables: &mut Pages) -> Option<Chain>
     ensures chain { result ≡ pin_of store.now path.now }
     ensures tables { IfSome result (λ items. tables.new ≡ with_pages tables.old (pin_pages store.now items)) }
 {
@@ -46,7 +46,7 @@ pub fn pin_gathering(store: &Store, path: &Path, tables: &mut Pages) -> Option<C
         if *syllable >= chain.pages(store) {
             return None;
         }
-        match child_gathering::<Brand>(store, &chain, *syllable, tables, Blank::new(1)) {
+        match child_noting::<Brand>(store, &chain, *syllable, tables, Blank::new(1)) {
             Found::Child { host, block } => chain = chain.deeper(*syllable, host, &block),
             Found::Malformed { .. } | Found::Refused(_) => return None,
         }
@@ -55,7 +55,7 @@ pub fn pin_gathering(store: &Store, path: &Path, tables: &mut Pages) -> Option<C
 }
 
 // What the last machine of a chain finds on its page `page`, with what is read to find it; no steps are counted.
-fn child_gathering<L: Ledger>(
+fn child_noting<L: Ledger>(
     store: &Store,
     chain: &Chain,
     page: u32,
@@ -71,6 +71,6 @@ fn child_gathering<L: Ledger>(
     ensures tables { tables.new ≡ with_pages tables.old (pages_read (gathered_along store.now chain.now) page) }
 {
     let mut steps = Steps::<L>::new(blank);
-    let slot = resolve_gathering(store, chain, page, tables, &mut steps);
+    let slot = resolve_noting(store, chain, page, tables, &mut steps);
     through(store, chain, slot.write)
 }

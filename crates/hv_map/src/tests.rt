@@ -109,7 +109,7 @@ fn counted<L: Ledger>(
     let plain = resolve(store, chain, page, &mut steps);
     Some((
         plain,
-        resolve_gathering(store, chain, page, tables, &mut steps),
+        resolve_noting(store, chain, page, tables, &mut steps),
     ))
 }
 
@@ -282,13 +282,13 @@ fn a_directory_names_the_tables(rt: HostRuntime) -> Result<(), Fail> {
 fn tables_are_gathered_as_they_are_read(rt: HostRuntime) -> Result<(), Fail> {
     let store = nested(rt.alloc())?;
     let mut tables = Pages::new();
-    let inner = pin_gathering(&store, &path(&[1, 2]), &mut tables).ok_or("no chain")?;
+    let inner = pin_noting(&store, &path(&[1, 2]), &mut tables).ok_or("no chain")?;
     assert_eq!(rt; tables.as_slice(), [2].as_slice());
     assert!(rt; both_open(&store, &inner, 0, &mut tables, 4));
     assert_eq!(rt; tables.as_slice(), [2, 5].as_slice());
     let store = directed(rt.alloc())?;
     let mut tables = Pages::new();
-    let outer = pin_gathering(&store, &path(&[1]), &mut tables).ok_or("no chain")?;
+    let outer = pin_noting(&store, &path(&[1]), &mut tables).ok_or("no chain")?;
     assert!(rt; both_open(&store, &outer, 1, &mut tables, 5));
     assert_eq!(rt; tables.as_slice(), [7, 2].as_slice());
     assert!(rt; tables.contains(7) && !tables.contains(5) && !tables.full);

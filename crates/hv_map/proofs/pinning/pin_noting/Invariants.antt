@@ -2,7 +2,7 @@ use Rattle.std.proofs.Common.{◌≡◌, length, drop}
 use Rattle.hv_map.specs.Chain.{pin_of}
 use Rattle.hv_map.specs.Gathered.{pin_pages, with_pages}
 use Rattle.hv_map.proofs.Pins.{rest_of}
-use Rattle.hv_map.proofs.pinning.pin_gathering.Given as goal
+use Rattle.hv_map.proofs.pinning.pin_noting.Given as goal
 
 abbrev pub invariant-loop-syllable : goal.invariant-loop-syllable
 invariant-loop-syllable l = record {
@@ -11,5 +11,5 @@ invariant-loop-syllable l = record {
   listed : l.tables ≡ with_pages l.fn.tables (pin_pages l.store l.chain);
 }
 
-abbrev pub ghosts-child_gathering : goal.ghosts-child_gathering
-ghosts-child_gathering a = record { name = a.blank.name; parts = a.blank.parts }
+abbrev pub ghosts-child_noting : goal.ghosts-child_noting
+ghosts-child_noting a = record { name = a.blank.name; parts = a.blank.parts }

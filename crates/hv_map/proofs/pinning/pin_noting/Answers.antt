@@ -6,7 +6,7 @@ use Rattle.hv_map.specs.Found.{item_of}
 use Rattle.hv_map.specs.Gathered.{pin_pages, with_pages}
 use Rattle.hv_map.proofs.Listing.{pins_none, pins_more}
 use Rattle.hv_map.proofs.Pins.{rest_of, rest_all, rest_goes_on, child_there}
-use Rattle.hv_map.proofs.pinning.pin_gathering.Goals as goal
+use Rattle.hv_map.proofs.pinning.pin_noting.Goals as goal
 
 pub loop-syllable-init : goal.loop-syllable-init
 loop-syllable-init c =
@@ -39,6 +39,6 @@ loop-syllable-preserved c =
           ∙ sym (rest_goes_on S chain items i x c.loop-syllable-test.true there)
           ∙ c.loop-syllable.invariant.rest;
       listed =
-          pins_more c.args.tables.now c.loop-syllable.tables c.child_gathering.new.tables S chain x c.loop-syllable.invariant.listed c.child_gathering.ensures.tables
+          pins_more c.args.tables.now c.loop-syllable.tables c.child_noting.new.tables S chain x c.loop-syllable.invariant.listed c.child_noting.ensures.tables
           ∙ ap (λ (xs : List Item). with_pages c.args.tables.now (pin_pages S xs)) (sym c.deeper-chain.ensures);
     }

@@ -7,6 +7,7 @@ use Rattle.hv_isa.specs.declared.Op.TheVariants as op
 use Rattle.hv_lex.specs.Lines.{lines_of}
 use Rattle.hv_asm.specs.Assembly.{asm_of, words_from, line_words, and_then, has_room, in_front, is_refused, place_of, repeats, worked_words}
 use Rattle.hv_asm.specs.Forms.{◌>>=◌, ranged, word_with}
+use Rattle.hv_asm.specs.Limits.{image_limit}
 use Rattle.hv_asm.specs.Operands.{Reading, Deed, Refused, Nothing, Work, read_of, size_of, size_with, space_of}
 use Rattle.hv_asm.specs.Rows.{address, number, register}
 use Rattle.hv_asm.specs.Words.{alone, high_part, is_defined, is_value, la_words, li_words, low_part, one_word, pair_words, space_count, value, value_at, value_words, values_of, words_with, zeros_of}
@@ -138,11 +139,11 @@ words_sized find at line operation operands ws is = one_length (one_word find at
 
 -- words that are there end where they may
 abbrev pub Ends : (base end : ℕ) → List ℕ → Type 0
-Ends base end ws = 0 < length ws → (end ≤ base + 1048576) × (end ≤ 2 ^ 32)
+Ends base end ws = 0 < length ws → (end ≤ base + image_limit) × (end ≤ 2 ^ 32)
 
-has_ends : (base end : ℕ) → has_room base end ≡ true → (end ≤ base + 1048576) × (end ≤ 2 ^ 32)
+has_ends : (base end : ℕ) → has_room base end ≡ true → (end ≤ base + image_limit) × (end ≤ 2 ^ 32)
 has_ends base end e =
-    let b = both _ _ e in (leb-true end (base + 1048576) b.0, leb-true end (2 ^ 32) b.1)
+    let b = both _ _ e in (leb-true end (base + image_limit) b.0, leb-true end (2 ^ 32) b.1)
 
 worked_sized : (find : List ℕ → Option Place) (base at end : ℕ) (line : List ℕ) (deed : Deed) (ws : List ℕ) → worked_words find base at end line deed ≡ Ok ws → (4 * length ws ≡ size_of deed) × Ends base end ws
 unfolding size_of
@@ -197,13 +198,13 @@ words_extent find base n at (line ∷ lines) ws is =
     (omega (arith, e.0), omega (arith, e.1))
 
 -- the words of a text are few enough, and the last one has an address
-pub lines_extent : (lines : List (List ℕ)) (base : ℕ) (ws : List ℕ) → base < 2 ^ 32 → words_from (place_of base lines) base 1 base lines ≡ Ok ws → (base + 4 * length ws ≤ 2 ^ 32) × (length ws ≤ 2 ^ 18)
+pub lines_extent : (lines : List (List ℕ)) (base : ℕ) (ws : List ℕ) → base < 2 ^ 32 → words_from (place_of base lines) base 1 base lines ≡ Ok ws → (base + 4 * length ws ≤ 2 ^ 32) × (4 * length ws ≤ image_limit)
 lines_extent lines base [] fits is = (omega arith, omega arith)
 lines_extent lines base (w ∷ ws) fits is =
     let h : 0 < length (w ∷ ws) = omega arith in
     let e = words_extent (place_of base lines) base 1 base lines (w ∷ ws) is h in
     (omega (arith, e.1), omega (arith, e.0))
 
-pub asm_extent : (text : List ℕ) (base : ℕ) (ws : List ℕ) → base < 2 ^ 32 → asm_of text base ≡ Ok ws → (base + 4 * length ws ≤ 2 ^ 32) × (length ws ≤ 2 ^ 18)
+pub asm_extent : (text : List ℕ) (base : ℕ) (ws : List ℕ) → base < 2 ^ 32 → asm_of text base ≡ Ok ws → (base + 4 * length ws ≤ 2 ^ 32) × (4 * length ws ≤ image_limit)
 unfolding asm_of
 asm_extent text base ws fits is = lines_extent (lines_of text) base ws fits is

@@ -8,6 +8,7 @@ use Rattle.hv_lex.specs.declared.Token.{Token}
 use Rattle.hv_asm.specs.Amounts.{amount_of, word_of}
 use Rattle.hv_asm.specs.Forms.{immediate_of, word_with}
 use Rattle.hv_word.specs.Words.{signed_of}
+use Rattle.hv_asm.specs.Limits.{space_limit}
 use Rattle.hv_asm.specs.Meaning.{Alone, Contributes, IsAddress, IsLoad, IsNumber, IsRegister, IsWordValue, One, Two}
 use Rattle.hv_asm.specs.Rows.{address, number, register}
 use Rattle.hv_asm.specs.Words.{high_part, is_defined, is_value, la_words, li_words, low_part, pair_words, space_count, value, value_at, value_words, values_of, zeros_of}
@@ -188,7 +189,7 @@ module _ (find : List ℕ → Option Place) (at : ℕ) (line : List ℕ) where
       let s = then_ok (space_count (operand.Number (Plus m) ∷ [])) _ ws e in
       let r = ranged_ok _ _ _ s.1 in
       let b = both _ _ r.0 in
-      let most : m ≤ 1048576 = leb-true m 1048576 b.0 in
+      let most : m ≤ space_limit = leb-true m space_limit b.0 in
       let even : m % 4 ≡ 0 = eqb-true (m % 4) 0 b.1 in
       let n : m ≡ 4 * s.0 = omega (arith, even, r.1) in (
         s.0,

@@ -3,6 +3,7 @@ use Rattle.std.specs.Prelude.{ℕ, ◌+◌, ◌^◌, ◌&&◌, nat_lt, nat_le, L
 use Rattle.std.specs.Str.{bytes_eq}
 use Rattle.hv_lex.specs.Lines.{lines_of}
 use Rattle.hv_asm.specs.Forms.{◌>>=◌}
+use Rattle.hv_asm.specs.Limits.{image_limit}
 use Rattle.hv_asm.specs.Operands.{Reading, Deed, Refused, Nothing, Work, read_of, size_of}
 use Rattle.hv_asm.specs.Words.{words_with}
 use Rattle.hv_asm.specs.declared.AsmKind.{AsmKind}
@@ -35,9 +36,9 @@ abbrev pub repeats : (List ℕ → Option Place) → ℕ → Option (List ℕ) �
 repeats find number None = false
 repeats find number (Some label) = is_before number (find label)
 
--- the words up to here are at most 2 ^ 18, and the last is at most at address 2 ^ 32 - 4
+-- the bytes up to here are no more than an image can have, and the last word is at most at address 2 ^ 32 - 4
 abbrev pub has_room : (base end : ℕ) → Bool
-has_room base end = nat_le end (base + 1048576) && nat_le end (2 ^ 32)
+has_room base end = nat_le end (base + image_limit) && nat_le end (2 ^ 32)
 
 -- the words of an operation, if its name is one and the words have room
 abbrev pub worked_words : (List ℕ → Option Place) → (base at end : ℕ) → List ℕ → Deed → Result (List ℕ) AsmKind

@@ -1,3 +1,4 @@
+pub mod Limits
 pub mod Amounts
 pub mod Forms
 pub mod Names

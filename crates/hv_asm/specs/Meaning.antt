@@ -8,6 +8,7 @@ use Rattle.hv_isa.specs.declared.Instr.{Instr}
 use Rattle.hv_isa.specs.declared.Op.TheVariants as op
 use Rattle.hv_lex.specs.declared.Token.{Token}
 use Rattle.hv_lex.specs.declared.Kind.TheVariants.{Name, Number, Open, Close}
+use Rattle.hv_asm.specs.Limits.{space_limit}
 use Rattle.hv_asm.specs.Names.{register_of}
 use Rattle.hv_asm.specs.Operands.{text_of}
 use Rattle.hv_asm.specs.declared.names.Operation.{Operation}
@@ -129,4 +130,4 @@ Contributes labels at line La operands words =
 Contributes labels at line Words operands words =
     (0 < length words) × AllZip (λ a v. Alone (λ t. IsAddress labels line t v ⊎ IsWordValue t v) a) operands words
 Contributes labels at line Space operands words =
-    (n : ℕ) × One (λ t. IsNumber t (pos (4 * n))) operands × (n ≤ 2 ^ 18) × (words ≡ replicate n 0)
+    (n : ℕ) × One (λ t. IsNumber t (pos (4 * n))) operands × (4 * n ≤ space_limit) × (words ≡ replicate n 0)

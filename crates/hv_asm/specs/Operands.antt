@@ -9,6 +9,7 @@ use Rattle.hv_lex.specs.declared.Kind.TheVariants.{Name, Number, Comma, Colon, O
 use Rattle.hv_lex.specs.declared.LexEnd.{LexEnd}
 use Rattle.hv_lex.specs.declared.LexEnd.TheVariants.{BadByte, BadNumber, Memory}
 use Rattle.hv_asm.specs.Amounts.{amount_of}
+use Rattle.hv_asm.specs.Limits.{space_limit}
 use Rattle.hv_asm.specs.Names.{operation_of}
 use Rattle.hv_asm.specs.declared.AsmKind.{AsmKind}
 use Rattle.hv_asm.specs.declared.AsmKind.TheVariants as fault
@@ -129,7 +130,7 @@ read_of line = read_tokens line (tokens_of line)
 
 -- the bytes of `.space`, if its number is in its range
 abbrev pub space_of : List Operand → ℕ
-space_of (operand.Number (Plus n) ∷ []) = if nat_le n 1048576 && n % 4 == 0 then n else 0
+space_of (operand.Number (Plus n) ∷ []) = if nat_le n space_limit && n % 4 == 0 then n else 0
 space_of _ = 0
 
 -- how many bytes an operation makes

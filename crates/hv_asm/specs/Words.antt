@@ -5,6 +5,7 @@ use Rattle.hv_isa.specs.declared.Op.{Op}
 use Rattle.hv_isa.specs.declared.Op.TheVariants as op
 use Rattle.hv_asm.specs.Amounts.{word_of}
 use Rattle.hv_asm.specs.Forms.{◌>>=◌, ranged, word_with}
+use Rattle.hv_asm.specs.Limits.{space_limit}
 use Rattle.hv_asm.specs.Operands.{text_of}
 use Rattle.hv_asm.specs.Rows.{address, csr, number, plain_jump_word, register, row_word, zero_word}
 use Rattle.hv_asm.specs.declared.AsmKind.{AsmKind}
@@ -111,9 +112,9 @@ value_words find line operands =
     (if list_all (is_defined find line) operands then values_of find line operands else Err fault.Label)
     else Err fault.Operand
 
--- zeros, as many bytes as a multiple of 4 up to 2 ^ 20 says
+-- zeros, as many bytes as a multiple of 4 within the limit says
 unfoldable pub space_count : List Operand → Result ℕ AsmKind
-space_count (Number (Plus n) ∷ []) = ranged (nat_le n 1048576 && n % 4 == 0) (n / 4)
+space_count (Number (Plus n) ∷ []) = ranged (nat_le n space_limit && n % 4 == 0) (n / 4)
 space_count (Number (Minus n) ∷ []) = Err fault.Range
 space_count _ = Err fault.Operand
 

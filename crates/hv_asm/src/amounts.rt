@@ -1,6 +1,6 @@
 //! Numbers as operands have them.
 
-ghost use Rattle.std.specs.Prelude.{◌≡◌, ◌≤◌, ◌^◌, ◌<◌};
+ghost use Rattle.std.specs.Prelude.{◌≡◌, ◌<◌};
 ghost use Rattle.hv_asm.specs.Amounts.{amount_of, distance as distance_of, is_even as is_even_of, within as within_of, within_signed as within_signed_of, word_of};
 
 /// A number: its sign and its size.

@@ -1,6 +1,6 @@
 //! The lines of a text, one after another.
 
-ghost use Rattle.std.specs.Prelude.{◌≡◌, ℕ, ◌+◌, ◌<◌, ◌^◌, length};
+ghost use Rattle.std.specs.Prelude.{◌≡◌, ◌+◌, ◌<◌};
 ghost use Rattle.hv_asm.specs.Assembly.{has_room as has_room_of, line_words, repeats as repeats_of, worked_words};
 ghost use Rattle.hv_asm.specs.Emitted.{Appends};
 ghost use Rattle.hv_asm.specs.Labels.{place_in};
@@ -11,6 +11,7 @@ ghost use Rattle.std.specs.Option.{option_map};
 use crate::AsmKind;
 use crate::emits::{EmitEnd, push_words};
 use crate::labels::Labels;
+use crate::limits::IMAGE_BYTES;
 use crate::lines::{Body, Line};
 use crate::operands::text;
 use hv_lex::Token;
@@ -27,7 +28,7 @@ pub(crate) struct Extent {
 fn has_room(base: u32, end: u64) -> bool
     ensures { result ≡ has_room_of base end }
 {
-    end <= u64::from(base) + 0x10_0000 && end <= 0x1_0000_0000
+    end <= u64::from(base) + IMAGE_BYTES && end <= 0x1_0000_0000
 }
 
 fn repeats(labels: &Labels, number: u32, line: &[u8], label: Option<Token>) -> bool

@@ -1,6 +1,6 @@
 //! The words of an operation.
 
-ghost use Rattle.std.specs.Prelude.{◌≡◌, ◌<◌, ◌≤◌, ◌^◌, ◌%◌, ◌++◌, ◌∷◌, [], length, OnOk};
+ghost use Rattle.std.specs.Prelude.{◌≡◌, ◌<◌, ◌%◌, ◌++◌, OnOk};
 ghost use Rattle.std.specs.List.{list_all};
 ghost use Rattle.hv_isa.specs.Table.{row_of};
 ghost use Rattle.hv_asm.specs.Emitted.{Appends};
@@ -13,6 +13,7 @@ use crate::AsmKind;
 use crate::amounts::{Amount, word};
 use crate::forms::{Form, instruction};
 use crate::labels::Labels;
+use crate::limits::SPACE_BYTES;
 use crate::names::Operation;
 use crate::operands::{Operand, text};
 use crate::rows::{address, csr, number, plain_jump_word, register, row_word, zero_word};
@@ -277,7 +278,7 @@ fn space_count(operands: &[Operand]) -> Result<u64, AsmKind>
     };
     match *amount {
         Amount::Plus(size) => {
-            if size <= 0x10_0000 && size % 4 == 0 {
+            if size <= SPACE_BYTES && size % 4 == 0 {
                 Ok(size / 4)
             } else {
                 Err(AsmKind::Range)

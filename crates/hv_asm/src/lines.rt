@@ -1,12 +1,13 @@
 //! Lines as they are read, and their sizes.
 
-ghost use Rattle.std.specs.Prelude.{◌≡◌, ◌≤◌, ◌<◌, ◌^◌, ◌+◌, ◌*◌, ◌∷◌, None, length, IfOk};
-ghost use Rattle.hv_lex.specs.Tokens.{Rise};
+ghost use Rattle.std.specs.Prelude.{◌≡◌, ◌≤◌, ◌<◌, ◌^◌, ◌+◌, ◌*◌, None, length, IfOk};
+ghost use Rattle.hv_asm.specs.Limits.{space_limit};
 ghost use Rattle.hv_asm.specs.Operands.{begins_label as begins_label_of, deed_of, read_of, reading_of, size_of, size_with as size_with_of, space_of};
 ghost use Rattle.hv_asm.specs.Seen.{deed_in, operand_count, reading_in};
 
 use crate::AsmKind;
 use crate::amounts::Amount;
+use crate::limits::SPACE_BYTES;
 use crate::names::{Operation, operation_named};
 use crate::operands::{Operand, read_operands, text};
 use hv_lex::{Kind, LexEnd, Token, tokens};
@@ -104,12 +105,12 @@ fn refused(kind: AsmKind) -> Line
 // How many bytes `.space` makes.
 fn space(operands: &[Operand]) -> u64
     ensures size { result ≡ space_of operands.now }
-    ensures most { result ≤ 1048576 }
+    ensures most { result ≤ space_limit }
 {
     let [Operand::Number(Amount::Plus(size))] = operands else {
         return 0;
     };
-    if *size <= 0x10_0000 && *size % 4 == 0 {
+    if *size <= SPACE_BYTES && *size % 4 == 0 {
         *size
     } else {
         0
@@ -119,7 +120,7 @@ fn space(operands: &[Operand]) -> u64
 fn size_with(operation: Operation, operands: &[Operand]) -> u64
     requires { length operands.now < 2 ^ 32 }
     ensures size { result ≡ size_with_of operation operands.now }
-    ensures most { result ≤ 1048576 + 4 * length operands.now }
+    ensures most { result ≤ space_limit + 4 * length operands.now }
 {
     match operation {
         Operation::Li | Operation::La => 8,
@@ -134,7 +135,7 @@ fn size_with(operation: Operation, operands: &[Operand]) -> u64
 pub(crate) fn size(body: &Body) -> u64
     requires { operand_count body.now < 2 ^ 32 }
     ensures size { result ≡ size_of (deed_in body.now) }
-    ensures most { result ≤ 1048576 + 4 * operand_count body.now }
+    ensures most { result ≤ space_limit + 4 * operand_count body.now }
 {
     match body {
         Body::Work(Some(operation), operands) => size_with(*operation, operands),

@@ -1,6 +1,6 @@
 //! The shape of a line: its label, its operation and its operands.
 
-ghost use Rattle.std.specs.Prelude.{◌≡◌, ◌≢◌, ℕ, ◌+◌, ◌≤◌, ◌<◌, ◌∷◌, length, slice_index_or, vec_len, IfOk, IfSome};
+ghost use Rattle.std.specs.Prelude.{◌≡◌, ℕ, ◌+◌, ◌≤◌, ◌<◌, ◌∷◌, length, slice_index_or, vec_len, IfOk, IfSome};
 ghost use Rattle.std.specs.Option.{option_copied, option_map};
 ghost use Rattle.hv_lex.specs.declared.Token.{Token};
 ghost use Rattle.std.specs.Prelude.{true, false};

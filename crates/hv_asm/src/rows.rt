@@ -1,11 +1,10 @@
 //! The word of an instruction, from its operands.
 
 ghost use Rattle.std.specs.Prelude.{◌≡◌, ◌<◌, ℕ, IfOk};
-ghost use Rattle.hv_isa.specs.Csrs.{csr_number_of};
 ghost use Rattle.hv_isa.specs.Table.{row_of};
 ghost use Rattle.hv_asm.specs.Forms.{UsesRegisters, form_of};
 ghost use Rattle.hv_asm.specs.Labels.{place_in};
-ghost use Rattle.hv_asm.specs.Rows.{address as address_of, bare_word as bare_word_of, branch_word as branch_word_of, csr as csr_of, csr_number_word as csr_number_word_of, csr_register_word as csr_register_word_of, form_word as form_word_of, immediate_word as immediate_word_of, jump_word as jump_word_of, load_word as load_word_of, number as number_of, plain_jump_word as plain_jump_word_of, register as register_of, register_at as register_at_of, registers_word as registers_word_of, row_word as row_word_of, small as small_of, source_word as source_word_of, sources_word as sources_word_of, store_word as store_word_of, target as target_of, upper_word as upper_word_of, zero_word as zero_word_of};
+ghost use Rattle.hv_asm.specs.Rows.{address as address_of, bare_word as bare_word_of, branch_word as branch_word_of, csr as csr_of, csr_number_word as csr_number_word_of, csr_register_word as csr_register_word_of, immediate_word as immediate_word_of, jump_word as jump_word_of, load_word as load_word_of, number as number_of, plain_jump_word as plain_jump_word_of, register as register_of, register_at as register_at_of, registers_word as registers_word_of, row_word as row_word_of, small as small_of, source_word as source_word_of, sources_word as sources_word_of, store_word as store_word_of, target as target_of, upper_word as upper_word_of, zero_word as zero_word_of};
 
 use crate::AsmKind;
 use crate::amounts::{Amount, distance, within, word};

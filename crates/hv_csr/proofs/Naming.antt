@@ -7,7 +7,7 @@ use Rattle.std.proofs.lemmas.Bool.Decides.{eqb_tells}
 use Rattle.hv_isa.specs.Csrs.{csrs, csr_name_of, csr_number_of}
 use Rattle.hv_isa.proofs.Registers.{number_again}
 use Rattle.hv_csr.specs.declared.csr.Csr.{Csr}
-use Rattle.hv_csr.specs.Table.{row_of, all, numbered, csr_of}
+use Rattle.hv_csr.specs.Table.{row_of, all, csr_of}
 
 -- a register as a row of the assembler's table
 entry : Csr → ℕ × List ℕ
@@ -26,18 +26,18 @@ turned a b = by (eqb_tells a b)
 
 -- the first register of a number, and the first row of it
 found_alike : (cs : List Csr) (n : ℕ)
-    → option_map (λ (csr : Csr). (row_of csr).name) (numbered cs n)
+    → option_map (λ (csr : Csr). (row_of csr).name) (find (λ (csr : Csr). n == (row_of csr).number) cs)
     ≡ option_map (λ (row : ℕ × List ℕ). row.1) (find (λ (row : ℕ × List ℕ). row.0 == n) (map entry cs))
 unfolding entry
 found_alike [] n = refl
 found_alike (c ∷ cs) n =
-    ap (λ (b : Bool). option_map (λ (csr : Csr). (row_of csr).name) (cond b (Some c) (numbered cs n))) (turned n (row_of c).number)
+    ap (λ (b : Bool). option_map (λ (csr : Csr). (row_of csr).name) (cond b (Some c) (find (λ (csr : Csr). n == (row_of csr).number) cs))) (turned n (row_of c).number)
     ∙ by (found_alike cs n) ((row_of c).number == n)
   where
-    by : option_map (λ (csr : Csr). (row_of csr).name) (numbered cs n)
+    by : option_map (λ (csr : Csr). (row_of csr).name) (find (λ (csr : Csr). n == (row_of csr).number) cs)
         ≡ option_map (λ (row : ℕ × List ℕ). row.1) (find (λ (row : ℕ × List ℕ). row.0 == n) (map entry cs))
         → (b : Bool)
-        → option_map (λ (csr : Csr). (row_of csr).name) (cond b (Some c) (numbered cs n))
+        → option_map (λ (csr : Csr). (row_of csr).name) (cond b (Some c) (find (λ (csr : Csr). n == (row_of csr).number) cs))
         ≡ option_map (λ (row : ℕ × List ℕ). row.1) (cond b (Some (entry c)) (find (λ (row : ℕ × List ℕ). row.0 == n) (map entry cs)))
     by rest true = refl
     by rest false = rest

@@ -1,6 +1,7 @@
 -- Which interrupt is taken.
 use Rattle.std.specs.Prelude.{ℕ, ◌-◌, ◌^◌, ◌==◌, ◌&&◌, ◌||◌, Bool, nat_lt, if◌then◌else◌}
-use Rattle.std.specs.Prelude.{Option, Some, None, List, [], ◌∷◌}
+use Rattle.std.specs.Prelude.{Option, None, List, [], ◌∷◌, find}
+use Rattle.std.specs.Option.{option_or}
 use Rattle.std.specs.Int.RustNames.{bit_and}
 use Rattle.hv_word.specs.Words.{field_of}
 use Rattle.hv_cpu.specs.Regs.{Regs}
@@ -12,11 +13,6 @@ by_urgency = 11 ∷ 3 ∷ 7 ∷ 9 ∷ 1 ∷ 5 ∷ []
 -- interrupt k is in the set
 abbrev pub has_line : ℕ → ℕ → Bool
 has_line set k = bit_and set (2 ^ k) == 2 ^ k
-
--- the first of these that is in the set
-abbrev pub first_in : List ℕ → ℕ → Option ℕ
-first_in [] set = None
-first_in (k ∷ ks) set = if has_line set k then Some k else first_in ks set
 
 -- pending and enabled
 abbrev pub raised : Regs → ℕ
@@ -37,15 +33,14 @@ is_open_m r = nat_lt r.mode 3 || field_of r.mstatus 3 1 == 1
 abbrev pub is_open_s : Regs → Bool
 is_open_s r = r.mode == 0 || (r.mode == 1 && field_of r.mstatus 1 1 == 1)
 
--- the first, if there is one, and else the other
-abbrev pub or_else : Option ℕ → Option ℕ → Option ℕ
-or_else (Some k) other = Some k
-or_else None other = other
+-- the most urgent of a set
+abbrev pub most_urgent_of : ℕ → Option ℕ
+most_urgent_of set = find (has_line set) by_urgency
 
--- the most urgent of a set, where its interrupts can be taken now
-abbrev pub most_urgent_of : Bool → ℕ → Option ℕ
-most_urgent_of is_open set = if is_open then first_in by_urgency set else None
+-- the most urgent of a set whose interrupts are taken, or none
+abbrev pub most_urgent_open : Bool → ℕ → Option ℕ
+most_urgent_open is_open set = if is_open then most_urgent_of set else None
 
 -- the one to take: of those that aren't delegated the first, else the first delegated one
 abbrev pub pending_of : Regs → Option ℕ
-pending_of r = or_else (most_urgent_of (is_open_m r) (raised_m r)) (most_urgent_of (is_open_s r) (raised_s r))
+pending_of r = option_or (most_urgent_open (is_open_m r) (raised_m r)) (most_urgent_open (is_open_s r) (raised_s r))

@@ -1,6 +1,6 @@
 -- The control registers: number, name, what is read, and what a write of v leaves. Every other number
 -- names none. (Privileged Architecture, section 2.2 and chapters 3 and 4.)
-use Rattle.std.specs.Prelude.{ℕ, ◌+◌, ◌-◌, ◌%◌, ◌==◌, nat_lt, if◌then◌else◌, Option, Some, None, List, [], ◌∷◌, codes}
+use Rattle.std.specs.Prelude.{ℕ, ◌+◌, ◌-◌, ◌%◌, ◌==◌, nat_lt, if◌then◌else◌, Option, List, [], ◌∷◌, codes, find}
 use Rattle.std.specs.Int.RustNames.{bit_and}
 use Rattle.hv_word.specs.Words.{field_of, field_put}
 use Rattle.hv_cpu.specs.Masks.{mstatus_mask, medeleg_mask, mideleg_mask, interrupt_mask, satp_mask}
@@ -22,6 +22,10 @@ mpp_bits = 0x1800
 -- the software interrupt of S, the one bit of sip that S may write (section 4.1.3)
 abbrev pub ssi : ℕ
 ssi = 0x2
+
+-- the software, timer and external interrupts of S, the bits of mip that an instruction may write (section 3.1.9)
+abbrev pub mip_writable : ℕ
+mip_writable = 0x222
 
 -- 32 bits, with the extensions I, S and U (section 3.1.1)
 abbrev pub misa_word : ℕ
@@ -189,7 +193,7 @@ row_of Mip = record {
   number = 0x344;
   name = codes "mip";
   read = λ r hart. r.mip;
-  write = λ r v. record r { mip = merge r.mip mideleg_mask v };
+  write = λ r v. record r { mip = merge r.mip mip_writable v };
 }
 row_of Mvendorid = record {
   number = 0xF11;
@@ -224,10 +228,5 @@ all =
     Mtval ∷ Mip ∷ Mvendorid ∷ Marchid ∷ Mimpid ∷ Mhartid ∷ []
 
 -- the register with that number
-abbrev pub numbered : List Csr → ℕ → Option Csr
-numbered [] number = None
-numbered (c ∷ cs) number = if number == (row_of c).number then Some c else numbered cs number
-
--- the register with that number, if there is one
 abbrev pub csr_of : ℕ → Option Csr
-csr_of number = numbered all number
+csr_of number = find (λ csr. number == (row_of csr).number) all

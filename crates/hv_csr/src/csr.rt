@@ -12,6 +12,8 @@ use hv_cpu::{Cpu, MEDELEG_MASK, MIDELEG_MASK, MIE_MASK, SATP_MASK};
 pub const SSTATUS_MASK: u32 = 0x000C_0122;
 /// The software interrupt of S in sip.
 const SSI_MASK: u32 = 0x2;
+/// The bits of mip that an instruction may write.
+const MIP_WRITABLE: u32 = 0x222;
 /// 32 bits, with the extensions I, S and U.
 const MISA: u32 = 0x4014_0100;
 
@@ -139,7 +141,7 @@ impl Csr {
             Csr::Mepc => cpu.mepc = on_word(value),
             Csr::Mcause => cpu.mcause = value,
             Csr::Mtval => cpu.mtval = value,
-            Csr::Mip => cpu.mip = merged(cpu.mip, MIDELEG_MASK, value),
+            Csr::Mip => cpu.mip = merged(cpu.mip, MIP_WRITABLE, value),
             // those that only tell something
             _ => {}
         }

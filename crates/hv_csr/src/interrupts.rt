@@ -2,7 +2,7 @@
 
 ghost use Rattle.std.specs.Prelude.{◌≡◌, ◌-◌, ◌<◌, IfSome};
 ghost use Rattle.std.specs.Int.RustNames.{bit_and};
-ghost use Rattle.hv_csr.specs.Interrupts.{most_urgent_of, by_urgency, first_in, is_open_m, is_open_s, pending_of};
+ghost use Rattle.hv_csr.specs.Interrupts.{is_open_m, is_open_s, most_urgent_of, pending_of};
 
 use bitflags::Flags;
 use hv_cpu::mstatus::{MIE, SIE};
@@ -42,7 +42,7 @@ fn without(raised: u32, delegated: u32) -> u32
 
 // The most urgent interrupt in a set.
 fn most_urgent(set: u32) -> Option<u32>
-    ensures first { result ≡ first_in by_urgency set }
+    ensures first { result ≡ most_urgent_of set }
     ensures within { IfSome result (λ k. k < 16) }
 {
     let set = Interrupts::from_bits_retain(set);

@@ -10,7 +10,8 @@ use Rattle.hv_limits.specs.Limits.{depth_limit}
 use Rattle.hv_load.specs.declared.ends.BuildKind.{BuildKind}
 use Rattle.hv_load.specs.declared.ends.BuildKind.TheVariants as kind
 use Rattle.hv_load.specs.Building.{◌>>=◌, Building, Known, known, named}
-use Rattle.hv_load.specs.Directives.{image_in, image_of, is_outside, machine_of, machines_limit, made_in, pages_along, with_made}
+use Rattle.hv_line.specs.JobLimits.{job_machines}
+use Rattle.hv_load.specs.Directives.{image_in, image_of, is_outside, machine_of, made_in, pages_along, with_made}
 use Rattle.hv_load.specs.Making.{can_take}
 use Rattle.hv_load.specs.Pages.{each_from, free_at, free_page_of, if_free, marked, page_at, page_of, place_by, read_at, reads_in, with_values, writes_in, written_at}
 use Rattle.hv_towers.specs.Laid.{from_base}
@@ -60,7 +61,7 @@ pub record Filled (b n : Building) (base : ℕ) : Type 0 where
   pub watches : n.watches ≡ b.watches
 
 module _ (b : Building) (k : Known) (base n : ℕ) (is_map : map_of b.storage k.path ≡ Some (from_base base n)) (pages : k.pages ≡ n) where
-  pub machine_made : (name parent : List ℕ) (m : ℕ) → known parent b.names ≡ Ok k → b.machines < machines_limit → length k.path < depth_limit → named name b.names ≡ None → 1 ≤ m → 2 + table_pages m + m ≤ n → ((g : ℕ) → base < g → g < base + n → free_at b.marks g ≡ true) → machine_of b name parent 1 m 2 (2 + table_pages m) ≡ Ok (machine_at b name k m base)
+  pub machine_made : (name parent : List ℕ) (m : ℕ) → known parent b.names ≡ Ok k → b.machines < job_machines → length k.path < depth_limit → named name b.names ≡ None → 1 ≤ m → 2 + table_pages m + m ≤ n → ((g : ℕ) → base < g → g < base + n → free_at b.marks g ≡ true) → machine_of b name parent 1 m 2 (2 + table_pages m) ≡ Ok (machine_at b name k m base)
   machine_made name parent m is_known few short new some fits free =
       let taken : List ℕ = range_with_len (base + 1) (suc (table_pages m)) in
       let done : List ℕ → Result Building BuildKind = λ taken. cond (can_take b.marks taken) (Ok (with_made b name k 1 m 2 (2 + table_pages m) taken)) (Err kind.Overlap) in
@@ -68,7 +69,7 @@ module _ (b : Building) (k : Known) (base n : ℕ) (is_map : map_of b.storage k.
       let outside : Result Building BuildKind = cond (is_outside k.pages 1 m 2 (2 + table_pages m)) (Err kind.Outside) placed in
       let again : Result Building BuildKind = cond (is_some (named name b.names)) (Err kind.Repeat) outside in
       let size : k.pages ≡ n = pages in
-      not_refused (nat_le machines_limit b.machines) kind.Many (known parent b.names >>= λ k. made_in b name k 1 m 2 (2 + table_pages m)) (machine_at b name k m base) (lt-leb machines_limit b.machines few)
+      not_refused (nat_le job_machines b.machines) kind.Many (known parent b.names >>= λ k. made_in b name k 1 m 2 (2 + table_pages m)) (machine_at b name k m base) (lt-leb job_machines b.machines few)
       (goes_on (known parent b.names) (λ k. made_in b name k 1 m 2 (2 + table_pages m)) k (machine_at b name k m base) is_known
       (not_refused (nat_le depth_limit (length k.path)) kind.Depth again (machine_at b name k m base) (lt-leb depth_limit (length k.path) short)
       (not_refused (is_some (named name b.names)) kind.Repeat outside (machine_at b name k m base) (ap is_some new)

@@ -1,20 +1,20 @@
 -- What the lines of a text say, and the job of all that.
-use Rattle.std.specs.Prelude.{ℕ, ◌+◌, ◌*◌, List, [], ◌∷◌, ◌++◌, unwrap_or, Option, Some, None, Result, Ok, Err, IsOk}
+use Rattle.std.specs.Prelude.{ℕ, ◌+◌, List, [], ◌∷◌, ◌++◌, unwrap_or, Option, Some, None, Result, Ok, Err, IsOk}
 use Rattle.hv_asm.specs.Assembly.{asm_of}
 use Rattle.hv_asm.specs.declared.AsmKind.{AsmKind}
 use Rattle.hv_irq.specs.declared.Event.{Event}
-use Rattle.hv_irq.specs.declared.Event.TheVariants as event
 use Rattle.hv_samples.specs.Samples.{sample_text}
-use Rattle.hv_samples.specs.declared.choice.Sample.TheVariants.{Pass}
 use Rattle.hv_line.specs.Commands.{join_words_of}
-use Rattle.hv_job.specs.JobOf.{image_words}
+use Rattle.hv_job.specs.JobOf.{event_directive, image_words}
 use Rattle.hv_line.specs.declared.types.DebugCommand.{DebugCommand}
 use Rattle.hv_job.specs.declared.job.DebugLine.{DebugLine}
 use Rattle.hv_line.specs.declared.types.Directive.{Directive}
 use Rattle.hv_line.specs.declared.types.Directive.TheVariants as directive
+use Rattle.hv_line.specs.declared.types.Statement.{Statement}
+use Rattle.hv_line.specs.declared.types.Statement.TheVariants as states
 use Rattle.hv_job.specs.declared.job.Job.{Job}
 use Rattle.hv_job.specs.declared.job.Placed.{Placed}
-use Rattle.hv_grammar.specs.Forms.{Form, Harts, Hart, Machine, MapNone, MapRead, MapWrite, Start, Image, Sampled, Words, Tower, TowerOf, Turn, Lines, Watch, Dump}
+use Rattle.hv_grammar.specs.Forms.{Form, Harts, Image, Sampled, states_for}
 
 -- What a line says.
 pub data Said : Type 0 where
@@ -43,28 +43,18 @@ inner_lines (StorageOf pages ∷ says) = []
 inner_lines (Directed form ∷ says) = []
 inner_lines (Called words what ∷ says) = []
 
--- The directives of a form; what is said behind it has the lines of its image. An entry of a map has its bit 0 set
--- where the page is there, and its bit 1 where it may be written.
-abbrev pub directives_by : Form → List Said → List Directive
-directives_by (Harts harts) behind = []
-directives_by (Hart hart at) behind = directive.Hart hart at ∷ []
-directives_by (Machine name parent block pages table at) behind =
-    directive.Machine name parent block pages table at ∷ []
-directives_by (MapNone name page) behind = directive.Map name page 0 ∷ []
-directives_by (MapRead name page at) behind = directive.Map name page (at * 4096 + 1) ∷ []
-directives_by (MapWrite name page at) behind = directive.Map name page (at * 4096 + 3) ∷ []
-directives_by (Start name at) behind = directive.Start name at ∷ []
-directives_by (Image name at) behind =
+-- the directives of what a line says; what is said behind it has the lines of its image
+abbrev pub directives_in : Statement → List Said → List Directive
+directives_in (states.Harts harts) behind = []
+directives_in (states.Image name at) behind =
     directive.Image name (record { base = at; words = assembled (image_words at (inner_lines behind)) }) ∷ []
-directives_by (Sampled name at which) behind =
+directives_in (states.Sample name at which) behind =
     directive.Sample name (record { base = at; words = assembled (asm_of (sample_text which) at) }) ∷ []
-directives_by (Words name at values) behind = directive.Word name at values ∷ []
-directives_by (Tower depth pages) behind = directive.Tower depth pages Pass ∷ []
-directives_by (TowerOf depth pages which) behind = directive.Tower depth pages which ∷ []
-directives_by (Turn hart count) behind = directive.Turn hart ∷ []
-directives_by (Lines hart mask) behind = directive.Lines hart ∷ []
-directives_by (Watch hart name) behind = directive.Watch hart name ∷ []
-directives_by (Dump name page) behind = directive.Dump name page ∷ []
+directives_in (states.Event event) behind = event_directive event ∷ []
+directives_in (states.Directive what) behind = what ∷ []
+
+abbrev pub directives_by : Form → List Said → List Directive
+directives_by form behind = directives_in (states_for form) behind
 
 -- its image, or its sample, is assembled
 abbrev pub FormAssembles : Form → List Said → Type 0
@@ -97,10 +87,13 @@ abbrev pub placed_said : ℕ → List Said → List Placed
 placed_said number [] = []
 placed_said number (said ∷ says) = placed_by number said says ++ placed_said (number + 1) says
 
--- the events of one line
+-- the event of what a line says
+abbrev pub events_in : Statement → List Event
+events_in (states.Event event) = event ∷ []
+events_in _ = []
+
 abbrev pub events_by : Said → List Event
-events_by (Directed (Turn hart count)) = event.Turn hart count ∷ []
-events_by (Directed (Lines hart mask)) = event.Lines hart mask ∷ []
+events_by (Directed form) = events_in (states_for form)
 events_by _ = []
 
 -- the schedule

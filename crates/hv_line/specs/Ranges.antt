@@ -1,5 +1,6 @@
 -- What holds of what a line says: its values are in their ranges.
 use Rattle.std.specs.Prelude.{◌≡◌, ◌⊎◌, ℕ, ◌+◌, ◌*◌, ◌%◌, ◌^◌, ◌<◌, ◌≤◌, Bool, true, false, length}
+use Rattle.hv_asm.specs.Limits.{image_limit}
 use Rattle.hv_asm.specs.declared.Image.{Image}
 use Rattle.hv_irq.specs.Events.{hart_of}
 use Rattle.hv_limits.specs.Limits.{pages_limit, steps_limit}
@@ -28,7 +29,7 @@ IsSize pages = (1 ≤ pages) × (pages ≤ pages_limit)
 pub record IsImage (image : Image) : Type 0 where
   pub aligned : IsAligned image.base
   pub ends : image.base + 4 * length image.words ≤ 2 ^ 32
-  pub count : length image.words ≤ 2 ^ 18
+  pub count : 4 * length image.words ≤ image_limit
 
 -- the values of a directive are in their ranges
 abbrev pub IsRanged : Directive → Type 0

@@ -18,5 +18,5 @@ pub use limits::{
     JOB_VALUES, JOB_WATCHES, job_limits_are_kept,
 };
 pub use lines::{begins_with, has_allowed_bytes, has_words, is_header, is_only};
-pub use name::Name;
+pub use name::{LETTERS, Name};
 pub use types::{DebugCommand, Directive, Statement};

@@ -3,6 +3,9 @@
 ghost use Rattle.std.specs.Prelude.{◌≡◌, ◌≤◌};
 ghost use Rattle.hv_limits.specs.Limits.{depth_limit, harts_limit};
 ghost use Rattle.hv_line.specs.JobLimits.{job_breaks, job_commands, job_depth, job_dumps, job_harts, job_image_bytes, job_machines, job_values, job_watches};
+ghost use Rattle.hv_line.specs.Names.{name_limit};
+
+use crate::name::LETTERS;
 
 /// How many harts a line `harts` can ask for.
 pub const JOB_HARTS: u32 = 4;
@@ -43,4 +46,5 @@ pub fn job_limits_are_kept()
     ensures images { JOB_IMAGE_BYTES ≡ job_image_bytes }
     ensures commands { JOB_COMMANDS ≡ job_commands }
     ensures breaks { JOB_BREAKS ≡ job_breaks }
+    ensures letters { LETTERS ≡ name_limit }
 {}

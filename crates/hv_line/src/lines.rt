@@ -1,9 +1,8 @@
 //! The words of a line.
 
-ghost use Rattle.std.specs.Prelude.{◌≡◌, ◌≤◌, ◌<◌, ℕ, ◌∷◌, [], true, false, codes, length, nat_lt, slice_index, take, MatchOption};
+ghost use Rattle.std.specs.Prelude.{◌≡◌, ◌≤◌, ◌<◌, ℕ, ◌∷◌, [], true, false, length, nat_lt, slice_index, take, MatchOption};
 ghost use Rattle.hv_line.specs.Lines.{begins_with as begins_with_of, is_allowed, is_blank as is_blank_of, is_header as is_header_of, is_only as is_only_of, is_word_byte as is_word_byte_of, words_of};
 ghost use Rattle.hv_line.specs.Texts.{texts};
-ghost use Rattle.hv_lex.specs.Tokens.{is_plain as is_plain_of};
 
 use crate::words::is;
 

@@ -3,11 +3,11 @@
 ghost use Rattle.std.specs.Prelude.{◌≡◌, ◌≤◌, length, true};
 ghost use Rattle.std.specs.Str.{bytes_eq};
 ghost use Rattle.std.specs.List.{list_all};
-ghost use Rattle.hv_line.specs.Names.{is_letter as is_letter_of, is_name as is_name_of, is_name_byte as is_name_byte_of, name_of};
+ghost use Rattle.hv_line.specs.Names.{is_letter as is_letter_of, is_name as is_name_of, is_name_byte as is_name_byte_of, name_limit, name_of};
 
 use std::marker::Model;
 
-/// The most letters of a name.
+/// How many bytes a name can have.
 pub const LETTERS: usize = 16;
 
 /// A name of a machine: a letter a to z, followed by at most 15 letters a to z, digits or `_`. It is seen as the list of
@@ -19,13 +19,15 @@ pub struct Name {
 }
 
 impl Model for Name {
-    ghost use Rattle.std.specs.Prelude.{◌≡◌, ◌≤◌, ◌-◌, ◌++◌, ℕ, List, length, take, drop, replicate};
+    ghost use Rattle.std.specs.Prelude.{◌≡◌, ◌≤◌, ◌-◌, ℕ, List, length, take, drop, replicate};
+    ghost use Rattle.hv_line.specs.Names.{name_limit};
 
     ghost Value = { List ℕ };
 
     ghost view = { λ n. take n.len n.letters };
 
-    ghost invariant = { λ n. (n.len ≤ 16) × (length n.letters ≡ 16) × (drop n.len n.letters ≡ replicate (16 - n.len) 0) };
+    ghost invariant = { λ n. (n.len ≤ name_limit) × (length n.letters ≡ name_limit)
+        × (drop n.len n.letters ≡ replicate (name_limit - n.len) 0) };
 }
 
 impl Name {
@@ -65,7 +67,7 @@ impl Name {
     /// The letters.
     pub fn as_slice(&self) -> &[u8]
         ensures letters { result.now ≡ self.now }
-        ensures bound { length result.now ≤ 16 }
+        ensures bound { length result.now ≤ name_limit }
     {
         &self.letters[..self.len as usize]
     }
@@ -74,11 +76,11 @@ impl Name {
 // Whether a word is a name.
 fn is_name(word: &[u8]) -> bool
     ensures value { result ≡ is_name_of word.now }
-    ensures short { result ≡ true → length word.now ≤ 16 }
+    ensures short { result ≡ true → length word.now ≤ name_limit }
 {
     match word {
         [first, behind @ ..] => {
-            is_letter(*first) && behind.len() <= 15 && are_name_bytes(behind)
+            is_letter(*first) && behind.len() < LETTERS && are_name_bytes(behind)
         }
         [] => false,
     }

@@ -29,7 +29,8 @@ use Rattle.hv_load.specs.declared.parts.PlacedWatch.{PlacedWatch}
 use Rattle.hv_load.specs.declared.parts.Mark.TheVariants as mark
 use Rattle.hv_load.specs.Building.{◌>>=◌, Building, Known, known, known_inside, named, nothing_built}
 use Rattle.hv_load.specs.Build.{GivesStart, and_then, at_line, build_of, built_from, can_watch, command_fault, done_of, end_of, finish_of, part_of, parts_of, start_of, top_of, towered_of, unless_fault, unless_refused, watch_asked, watch_fault, with_top}
-use Rattle.hv_load.specs.Directives.{dump_in, dump_of, event_of, hart_of, image_in, image_of, is_outside, is_shared, machine_of, machines_limit, made_in, mapped_in, mapped_of, pages_along, started_in, started_of, watch_in, watch_of, with_made, words_in, words_of}
+use Rattle.hv_line.specs.JobLimits.{job_machines}
+use Rattle.hv_load.specs.Directives.{dump_in, dump_of, event_of, hart_of, image_in, image_of, is_outside, is_shared, machine_of, made_in, mapped_in, mapped_of, pages_along, started_in, started_of, watch_in, watch_of, with_made, words_in, words_of}
 use Rattle.hv_load.specs.Making.{block_word, can_take, table_word, with_machine, with_page, with_tables}
 use Rattle.hv_load.specs.Pages.{block_page, each_from, free_page_of, marked, outer, page_at, page_of, place_by, reads_in, table_word_of, with_values}
 use Rattle.hv_load.specs.Tower.{level_name, tower_of}
@@ -116,7 +117,7 @@ length-with_machine S pages table at (g ∷ gs) =
 
 machine_keeps : (b n : Building) (name parent : List ℕ) (block pages table at : ℕ) → machine_of b name parent block pages table at ≡ Ok n → KeepsBuilding b n 0 0
 machine_keeps b n name parent block pages table at is =
-    let many = passed (nat_le machines_limit b.machines) (known parent b.names >>= λ k. made_in b name k block pages table at) kind.Many n is in
+    let many = passed (nat_le job_machines b.machines) (known parent b.names >>= λ k. made_in b name k block pages table at) kind.Many n is in
     let found = bound (known parent b.names) (λ k. made_in b name k block pages table at) n many.1 in
     inside found.0 found.2
   where

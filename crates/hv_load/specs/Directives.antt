@@ -6,16 +6,13 @@ use Rattle.hv_store.specs.declared.access.Slot.{Slot}
 use Rattle.hv_map.specs.Apart.{table_pages}
 use Rattle.hv_map.specs.Chain.{map_of}
 use Rattle.hv_limits.specs.Limits.{depth_limit}
+use Rattle.hv_line.specs.JobLimits.{job_machines}
 use Rattle.hv_load.specs.declared.ends.BuildKind.{BuildKind}
 use Rattle.hv_load.specs.declared.ends.BuildKind.TheVariants as kind
 use Rattle.hv_load.specs.declared.parts.Mark.TheVariants as mark
 use Rattle.hv_load.specs.Building.{◌>>=◌, Building, Known, known, known_inside, named}
 use Rattle.hv_load.specs.Pages.{block_page, each_from, free_page_of, marked, outer, page_at, page_of, place_by, reads_in, table_word_of, with_values, writes_in}
 use Rattle.hv_load.specs.Making.{can_take, with_machine}
-
--- the most machines, without the bare one
-abbrev pub machines_limit : ℕ
-machines_limit = 256
 
 -- `hart`
 abbrev pub hart_of : Building → (hart pc : ℕ) → Result Building BuildKind
@@ -62,7 +59,7 @@ made_in b name parent block pages table at =
 -- `machine`
 abbrev pub machine_of : Building → (name parent : List ℕ) → (block pages table at : ℕ) → Result Building BuildKind
 machine_of b name parent block pages table at =
-    if nat_le machines_limit b.machines then Err kind.Many
+    if nat_le job_machines b.machines then Err kind.Many
     else known parent b.names >>= λ k. made_in b name k block pages table at
 
 -- `map`: the table word of page i becomes the entry

@@ -1,12 +1,13 @@
 //! A job while it is built: the directives in the order of their lines, the commands of the debugger, and last the
 //! watches.
 
-ghost use Rattle.std.specs.Prelude.{◌≡◌, ◌%◌, ◌<◌, ◌≤◌, ◌^◌, ◌⊎◌, IfOk, OnOk, length, ℕ, All, map};
+ghost use Rattle.std.specs.Prelude.{◌≡◌, ◌%◌, ◌<◌, ◌≤◌, ◌^◌, ◌⊎◌, IfOk, OnOk, length, map};
 ghost use Rattle.hv_limits.specs.Limits.{depth_limit, harts_limit, pages_limit};
 ghost use Rattle.hv_load.specs.Answers.{Leaves, Passes};
 ghost use Rattle.hv_load.specs.Building.{nothing_built};
-ghost use Rattle.hv_load.specs.Build.{top_of, with_top, GivesStart, can_watch as can_watch_of, command_fault as command_fault_of, command_of, done_of, end_of, finish_of, named_of, part_of, parts_of, plan_of, towered_of, watch_asked, watch_fault as watch_fault_of};
-ghost use Rattle.hv_load.specs.Directives.{dump_of, event_of, hart_of, image_in, image_of as image_done, machine_of, machines_limit, made_in, mapped_of, started_of, watch_of, words_of};
+ghost use Rattle.hv_load.specs.Build.{top_of, GivesStart, can_watch as can_watch_of, command_fault as command_fault_of, command_of, done_of, end_of, finish_of, named_of, part_of, parts_of, towered_of, watch_asked, watch_fault as watch_fault_of};
+ghost use Rattle.hv_load.specs.Directives.{dump_of, event_of, hart_of, image_of as image_done, machine_of, made_in, mapped_of, started_of, watch_of, words_of};
+ghost use Rattle.hv_line.specs.JobLimits.{job_machines};
 ghost use Rattle.hv_line.specs.Ranges.{IsRanged, IsSize};
 ghost use Rattle.hv_map.specs.Chain.{map_of};
 ghost use Rattle.hv_samples.specs.declared.choice.Sample.TheVariants.{Pass, Forward};
@@ -22,6 +23,7 @@ use hv_asm::Image;
 use hv_cpu::reset;
 use hv_job::{DebugCommand, DebugLine, Directive, Name, Placed};
 use hv_limits::{DEPTH, PAGES};
+use hv_line::JOB_MACHINES;
 use hv_list::Items;
 use hv_map::{Path, Watch, pin};
 use hv_nest::Harts;
@@ -29,9 +31,6 @@ use hv_samples::Sample;
 use hv_store::Store;
 use std::alloc::{AllocError, Global};
 use std::marker::Model;
-
-/// The most machines, without the bare one.
-const MACHINES: u32 = 256;
 
 /// What a job has come to so far.
 #[derive(Drop)]
@@ -236,7 +235,7 @@ impl Builder {
         ensures { Leaves result self.new
             (machine_of self.old name.now parent.now layout.block layout.pages layout.table layout.at) }
     {
-        if self.machines >= MACHINES {
+        if self.machines >= JOB_MACHINES {
             return Err(BuildKind::Many)?;
         }
         let parent = known(parent.as_slice(), self.names.as_slice())?;
@@ -251,7 +250,7 @@ impl Builder {
         parent: &Entry,
         layout: Layout,
     ) -> Result<(), DirectiveEnd>
-        requires { self.old.machines < machines_limit }
+        requires { self.old.machines < job_machines }
         ensures { Leaves result self.new
             (made_in self.old name.now parent.now layout.block layout.pages layout.table layout.at) }
     {

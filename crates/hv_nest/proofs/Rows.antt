@@ -1,12 +1,14 @@
 -- The rows of a step: what it comes to, by what is pending, what is to run, and what is found there.
 use Rattle.std.proofs.Common.{◌≡◌, ◌≢◌, ℕ, zero, suc, ◌+◌, ◌-◌, ◌<◌, Bool, true, false, cond, List, [], ◌∷◌, ◌++◌, length, Option, Some, None, refl, ap, ap₂, ◌∙◌, sym, subst, arith, slice_get, lit<}
+use Rattle.std.specs.Prelude.{find}
+use Rattle.std.specs.Option.{option_or}
 use Rattle.std.proofs.lemmas.Bool.{ne_eqb, eq-eqb}
 use Rattle.std.proofs.lemmas.List.{length-append}
 use Rattle.std.proofs.lemmas.Option.{same_Some}
 use Rattle.hv_word.specs.Storage.{page_count}
 use Rattle.hv_cpu.specs.Regs.{Regs}
 use Rattle.hv_csr.specs.Traps.{take_trap_of}
-use Rattle.hv_csr.specs.Interrupts.{by_urgency, first_in, has_line, pending_of, most_urgent_of, or_else, is_open_m, raised_m, is_open_s, raised_s}
+use Rattle.hv_csr.specs.Interrupts.{by_urgency, has_line, pending_of, most_urgent_open, is_open_m, raised_m, is_open_s, raised_s}
 use Rattle.hv_store.specs.declared.access.Refusal.{Refusal}
 use Rattle.hv_store.specs.declared.access.Slot.{Slot}
 use Rattle.hv_store.specs.declared.access.Way.{Way}
@@ -35,7 +37,7 @@ all_small : List ℕ → Type 0
 all_small [] = Unit {0}
 all_small (k ∷ ks) = (k < 16) × all_small ks
 
-first_small : (ks : List ℕ) (set k : ℕ) → all_small ks → first_in ks set ≡ Some k → k < 16
+first_small : (ks : List ℕ) (set k : ℕ) → all_small ks → find (has_line set) ks ≡ Some k → k < 16
 unfolding all_small
 first_small [] set k h e = absurd (none-some e)
   where
@@ -43,11 +45,11 @@ first_small [] set k h e = absurd (none-some e)
     none-some p = cc
 first_small (i ∷ ks) set k h e = by (first_small ks set k h.1) (has_line set i) e
   where
-    by : (first_in ks set ≡ Some k → k < 16) → (b : Bool) → cond b (Some i) (first_in ks set) ≡ Some k → k < 16
+    by : (find (has_line set) ks ≡ Some k → k < 16) → (b : Bool) → cond b (Some i) (find (has_line set) ks) ≡ Some k → k < 16
     by rest true p = subst (λ (n : ℕ). n < 16) (same_Some i k p) h.0
     by rest false p = rest p
 
-among_small : (open_to : Bool) (set k : ℕ) → most_urgent_of open_to set ≡ Some k → k < 16
+among_small : (open_to : Bool) (set k : ℕ) → most_urgent_open open_to set ≡ Some k → k < 16
 unfolding all_small
 among_small true set k e = first_small by_urgency set k (lit< tt, (lit< tt, (lit< tt, (lit< tt, (lit< tt, (lit< tt, tt)))))) e
 among_small false set k e = absurd (none-some e)
@@ -57,9 +59,9 @@ among_small false set k e = absurd (none-some e)
 
 pub pending_small : (r : Regs) (k : ℕ) → Some k ≡ pending_of r → k < 16
 pending_small r k e =
-    or_small (most_urgent_of (is_open_m r) (raised_m r)) (most_urgent_of (is_open_s r) (raised_s r)) (among_small (is_open_m r) (raised_m r) k) (among_small (is_open_s r) (raised_s r) k) (sym e)
+    or_small (most_urgent_open (is_open_m r) (raised_m r)) (most_urgent_open (is_open_s r) (raised_s r)) (among_small (is_open_m r) (raised_m r) k) (among_small (is_open_s r) (raised_s r) k) (sym e)
   where
-    or_small : (a b : Option ℕ) → (a ≡ Some k → k < 16) → (b ≡ Some k → k < 16) → or_else a b ≡ Some k → k < 16
+    or_small : (a b : Option ℕ) → (a ≡ Some k → k < 16) → (b ≡ Some k → k < 16) → option_or a b ≡ Some k → k < 16
     or_small (Some i) b f g p = f p
     or_small None b f g p = g p
 

@@ -1,8 +1,17 @@
 //! Which bare words a step changed.
 
 ghost use Rattle.std.specs.Prelude.{◌≡◌, []};
+ghost use Rattle.hv_nest.specs.Rows.{rows_limit};
 
 use std::marker::Model;
+
+/// How many bare words a step can change.
+pub const ROWS: usize = 8;
+
+/// The constant of the code is the number that the definitions speak of.
+pub fn rows_are_the_limit()
+    ensures { ROWS ≡ rows_limit }
+{}
 
 /// A bare word, counted from 0, with its new value.
 #[derive(Clone, Copy, Debug, PartialEq, Eq)]
@@ -11,11 +20,11 @@ pub struct ChangedRow {
     pub value: u32,
 }
 
-/// The bare words whose value a step changed, by rising place: the first `len` rows, at most 8. The others are zero.
+/// The bare words whose value a step changed, by rising place: the first `len` rows. The others are zero.
 #[derive(Clone, Copy, Debug)]
 pub struct Changed {
     pub len: u32,
-    pub rows: [ChangedRow; 8],
+    pub rows: [ChangedRow; ROWS],
 }
 
 impl Model for Changed {
@@ -24,11 +33,12 @@ impl Model for Changed {
 
     ghost Value = { List ChangedRow };
 
-    ghost use Rattle.hv_nest.specs.Rows.{no_row, filled_up, filled_back};
+    ghost use Rattle.hv_nest.specs.Rows.{no_row, rows_limit, filled_up, filled_back};
 
     ghost view = { λ c. take c.len c.rows };
 
-    ghost invariant = { λ c. (c.len ≤ 8) × (length c.rows ≡ 8) × (drop c.len c.rows ≡ replicate (8 - c.len) no_row) };
+    ghost invariant = { λ c. (c.len ≤ rows_limit) × (length c.rows ≡ rows_limit)
+        × (drop c.len c.rows ≡ replicate (rows_limit - c.len) no_row) };
 
     ghost inverse = { filled_up };
 
@@ -42,7 +52,7 @@ impl Changed {
     {
         Changed {
             len: 0,
-            rows: [ChangedRow { at: 0, value: 0 }; 8],
+            rows: [ChangedRow { at: 0, value: 0 }; ROWS],
         }
     }
 

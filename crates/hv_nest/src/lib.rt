@@ -13,7 +13,7 @@ mod plain;
 mod running;
 mod step;
 
-pub use changed::{Changed, ChangedRow};
+pub use changed::{Changed, ChangedRow, ROWS, rows_are_the_limit};
 pub use harts::Harts;
 pub use line_row::LineRow;
 pub use nested::Nested;

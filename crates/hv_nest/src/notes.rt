@@ -4,12 +4,9 @@ ghost use Rattle.std.specs.Prelude.{◌≡◌, ◌≢◌, ℕ, ◌+◌, ◌<◌,
 ghost use Rattle.hv_nest.specs.Changes.{differences};
 ghost use Rattle.hv_nest.specs.Notes.{undone, is_noted, is_exact, SameBetween, IsNextChange};
 
-use crate::changed::{Changed, ChangedRow};
+use crate::changed::{Changed, ChangedRow, ROWS};
 use hv_store::Store;
 use std::marker::Model;
-
-/// How many words a step can change at most.
-pub(crate) const ROWS: usize = 8;
 
 /// A word of the bare storage, by its place, and what it was before the step.
 #[derive(Clone, Copy)]

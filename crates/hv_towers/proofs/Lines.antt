@@ -12,7 +12,8 @@ use Rattle.hv_limits.specs.Limits.{depth_limit}
 use Rattle.hv_load.specs.declared.ends.BuildKind.{BuildKind}
 use Rattle.hv_load.specs.declared.ends.BuildKind.TheVariants as kind
 use Rattle.hv_load.specs.Building.{◌>>=◌, Building, Known, known, named}
-use Rattle.hv_load.specs.Directives.{image_in, image_of, is_outside, machine_of, machines_limit, made_in, pages_along, with_made, words_in, words_of}
+use Rattle.hv_line.specs.JobLimits.{job_machines}
+use Rattle.hv_load.specs.Directives.{image_in, image_of, is_outside, machine_of, made_in, pages_along, with_made, words_in, words_of}
 use Rattle.hv_load.specs.Making.{can_take, with_machine}
 use Rattle.hv_load.specs.Pages.{each_from, free_at, free_page_of, if_free, opened, page_of, place_by, read_at, reads_in, with_values, writes_in, written_at}
 use Rattle.hv_towers.specs.Laid.{from_base}
@@ -141,7 +142,7 @@ module _ (b n : Building) (name parent : List ℕ) (m at : ℕ) (k : Known) (bas
       let placed : Result Building BuildKind = pages_along (map_of b.storage k.path) 1 m 2 >>= done in
       let outside : Result Building BuildKind = cond (is_outside k.pages 1 m 2 at) (Err kind.Outside) placed in
       let again : Result Building BuildKind = cond (is_some (named name b.names)) (Err kind.Repeat) outside in
-      let many = passed (nat_le machines_limit b.machines) (known parent b.names >>= λ k. made_in b name k 1 m 2 at) kind.Many n is in
+      let many = passed (nat_le job_machines b.machines) (known parent b.names >>= λ k. made_in b name k 1 m 2 at) kind.Many n is in
       let here : made_in b name k 1 m 2 at ≡ Ok n = sym (ap (λ (r : Result Known BuildKind). r >>= λ k. made_in b name k 1 m 2 at) is_known) ∙ many.1 in
       let deep = passed (nat_le depth_limit (length k.path)) again kind.Depth n here in
       let new = passed (is_some (named name b.names)) outside kind.Repeat n deep.1 in

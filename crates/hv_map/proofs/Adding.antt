@@ -60,7 +60,7 @@ with_pages_full p [] e = e
 with_pages_full p (g ∷ gs) e =
     with_pages_full (with_page p g) gs (made_full p g (has g p.pages) (length p.pages == listed_limit) e)
 
-room_before : (p : Listed) (gs : List ℕ) → (with_pages p gs).full ≡ false → p.full ≡ false
+pub room_before : (p : Listed) (gs : List ℕ) → (with_pages p gs).full ≡ false → p.full ≡ false
 room_before p gs e = go p.full refl
   where
     go : (b : Bool) → p.full ≡ b → p.full ≡ false

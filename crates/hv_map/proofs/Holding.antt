@@ -24,7 +24,7 @@ use Rattle.hv_map.proofs.Rest.{first_all, second_all, KeepsMap, keeps_found, kep
 use Rattle.hv_map.proofs.Words.{follows}
 
 -- a listed page is the same where all listed pages are
-listed_same : (S T : List ℕ) (g : ℕ) (hs : List ℕ) → has g hs ≡ true → SamePages S T hs → SamePage S T g
+pub listed_same : (S T : List ℕ) (g : ℕ) (hs : List ℕ) → has g hs ≡ true → SamePages S T hs → SamePage S T g
 listed_same S T g [] e same = absurd (let f : false ≡ true = e in cc)
 listed_same S T g (h ∷ hs) e same = elim (eqb_tells g h) [
   | inl agree ↦ subst (SamePage S T) (sym agree.1) same.0
@@ -197,7 +197,7 @@ noticed N F u s is e =
     go None there f = absurd (let h : None ≡ Some s = f in cc)
     go (Some n) there f = record { gathered = n; found = there; slot = same_Some n.slot s f }
 
-child_is_placed : (S : List ℕ) (N : List Gathered) (F : List Slot) (p : Listed) (s : ℕ) (x : Item) → slots_of N ≡ F → child_of S F s ≡ Some x → Lists p (pages_read N x.syllable) → IsPlaced S N p x
+pub child_is_placed : (S : List ℕ) (N : List Gathered) (F : List Slot) (p : Listed) (s : ℕ) (x : Item) → slots_of N ≡ F → child_of S F s ≡ Some x → Lists p (pages_read N x.syllable) → IsPlaced S N p x
 child_is_placed S N F p s x is e lists =
     let f = follows S F s x e in
     let c = f.child in

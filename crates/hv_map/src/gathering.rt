@@ -12,7 +12,8 @@ use crate::lookup::{every, granted, pages_at, present, shut};
 use crate::pages::Pages;
 use hv_store::{Slot, Steps, Store, Way};
 use hv_word::field;
-use std::sync::ledger::Ledger;
+use std::marker::Brand;
+use std::sync::ledger::{Blank, Ledger};
 
 /// Where page `page` of the chain's machine lies, as `resolve` finds it and with as many table words read at most. The bare
 /// pages of tables and directories whose words are read, and that aren't in `tables` yet, are added to it in the order of
@@ -32,6 +33,35 @@ pub fn resolve_noting<L: Ledger>(
     ensures tables { tables.new ≡ with_pages tables.old (pages_read (gathered_along store.now chain.now) page) }
 {
     gather_at(store, chain, chain.len(), page, tables, steps)
+}
+
+/// The same where no steps are counted.
+pub fn page_slot_noting(store: &Store, chain: &Chain, page: u32, tables: &mut Pages) -> Slot
+    requires { page < length (map_along store.now chain.now) }
+    ensures slot { slice_get (map_along store.now chain.now) page ≡ Some result }
+    ensures within { IsSlotWithin (page_count store.now) (length chain.now) result }
+    ensures tables { tables.new ≡ with_pages tables.old (pages_read (gathered_along store.now chain.now) page) }
+{
+    page_slot_noting_by::<Brand>(store, chain, page, tables, Blank::new(1))
+}
+
+fn page_slot_noting_by<L: Ledger>(
+    store: &Store,
+    chain: &Chain,
+    page: u32,
+    tables: &mut Pages,
+    blank: Blank,
+) -> Slot
+    requires page { page < length (map_along store.now chain.now) }
+    requires name { blank.name ≡ L.name }
+    requires parts { blank.parts ≡ L.parts }
+    requires some { 0 < blank.parts }
+    ensures slot { slice_get (map_along store.now chain.now) page ≡ Some result }
+    ensures within { IsSlotWithin (page_count store.now) (length chain.now) result }
+    ensures tables { tables.new ≡ with_pages tables.old (pages_read (gathered_along store.now chain.now) page) }
+{
+    let mut steps = Steps::<L>::new(blank);
+    resolve_noting(store, chain, page, tables, &mut steps)
 }
 
 // The slot of a page of the machine at a level of the chain.

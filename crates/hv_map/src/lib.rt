@@ -16,12 +16,12 @@ mod ways;
 pub use chain::{Chain, ChainItem};
 pub use following::trail;
 pub use found::{Found, child};
-pub use gathering::resolve_noting;
+pub use gathering::{page_slot_noting, resolve_noting};
 pub use hv_store::{Slot, Way};
 pub use lookup::{page_slot, resolve};
 pub use pages::{NOTED, Pages};
 pub use path::{Path, Watch};
-pub use pinning::{pin, pin_noting};
+pub use pinning::{child_noting, pin, pin_noting};
 pub use view::View;
 pub use ways::Trail;
 

@@ -46,7 +46,7 @@ pub fn pin_noting(store: &Store, path: &Path, tables: &mut Pages) -> Option<Chai
         if *syllable >= chain.pages(store) {
             return None;
         }
-        match child_noting::<Brand>(store, &chain, *syllable, tables, Blank::new(1)) {
+        match child_noting(store, &chain, *syllable, tables) {
             Found::Child { host, block } => chain = chain.deeper(*syllable, host, &block),
             Found::Malformed { .. } | Found::Refused(_) => return None,
         }
@@ -54,8 +54,19 @@ pub fn pin_noting(store: &Store, path: &Path, tables: &mut Pages) -> Option<Chai
     Some(chain)
 }
 
-// What the last machine of a chain finds on its page `page`, with what is read to find it; no steps are counted.
-fn child_noting<L: Ledger>(
+/// What the last machine of a chain finds on its page `page`, as `child` finds it. The bare pages of tables and directories
+/// whose words are read, and that aren't in `tables` yet, are added to it in the order of first reading.
+pub fn child_noting(store: &Store, chain: &Chain, page: u32, tables: &mut Pages) -> Found
+    requires { page < length (map_along store.now chain.now) }
+    ensures found { Some result ≡ found_on store.now (map_along store.now chain.now) page }
+    ensures within { IsFoundWithin (page_count store.now) (length chain.now) result }
+    ensures tables { tables.new ≡ with_pages tables.old (pages_read (gathered_along store.now chain.now) page) }
+{
+    child_noting_by::<Brand>(store, chain, page, tables, Blank::new(1))
+}
+
+// The same; no steps are counted.
+fn child_noting_by<L: Ledger>(
     store: &Store,
     chain: &Chain,
     page: u32,

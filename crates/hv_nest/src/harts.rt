@@ -66,9 +66,9 @@ impl Harts {
         self.cpus[hart as usize]
     }
 
-    // The registers of a hart where they are.
+    /// The registers of a hart where they are.
     #[inline(always)]
-    pub(crate) fn at(&self, hart: u32) -> &Cpu
+    pub fn at(&self, hart: u32) -> &Cpu
         requires { hart < length self.now }
         ensures { slice_get self.now hart ≡ Some result.now }
     {
@@ -84,7 +84,7 @@ impl Harts {
     }
 
     /// Sets the lines from outside of a hart to those of `mask`, which has no other bits.
-    pub(crate) fn set_lines(&mut self, hart: u32, mask: u32)
+    pub fn set_lines(&mut self, hart: u32, mask: u32)
         requires hart { hart < length self.old }
         requires mask { bit_and mask lines_mask ≡ mask }
         ensures { IfSome (slice_get self.old hart) (λ r. self.new ≡ slice_set self.old hart (lined_of r mask)) }
@@ -94,7 +94,7 @@ impl Harts {
 
     /// One step of a hart. The next of each, if it has one, is a page of the storage.
     #[inline(always)]
-    pub(crate) fn step(&mut self, store: &mut Store, hart: u32) -> Outcome
+    pub fn step(&mut self, store: &mut Store, hart: u32) -> Outcome
         requires hart { hart < length self.old }
         requires next { All (NextBelow (page_count store.old)) self.old }
         ensures moves { record { kind = result.kind; state = record { storage = store.new; harts = self.new } }

@@ -17,8 +17,11 @@ pub use changed::{Changed, ChangedRow, ROWS, rows_are_the_limit};
 pub use harts::Harts;
 pub use line_row::LineRow;
 pub use nested::Nested;
+pub use notes::{Note, Notes};
+pub use noting::{put_cpu, put_fault};
 pub use outcome::{Outcome, StepKind};
 pub use plain::Plain;
+pub use running::path_of;
 pub use step::host_step;
 
 #[cfg(test)]

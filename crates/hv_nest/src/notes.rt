@@ -9,15 +9,15 @@ use hv_store::Store;
 use std::marker::Model;
 
 /// A word of the bare storage, by its place, and what it was before the step.
-#[derive(Clone, Copy)]
-pub(crate) struct Note {
-    pub(crate) at: u32,
-    pub(crate) before: u32,
+#[derive(Clone, Copy, Debug)]
+pub struct Note {
+    pub at: u32,
+    pub before: u32,
 }
 
-/// The notes of a step, in the order in which its words were changed first.
+/// The notes of a step, in the order in which its words were changed first, at most 8.
 #[derive(Drop)]
-pub(crate) struct Notes {
+pub struct Notes {
     len: u32,
     items: [Note; ROWS],
 }
@@ -36,7 +36,8 @@ impl Model for Notes {
 impl Notes {
     ghost use Rattle.hv_nest.specs.declared.notes.Note.{Note};
 
-    pub(crate) fn new() -> Notes
+    /// No note.
+    pub fn new() -> Notes
         ensures { result ≡ [] }
     {
         Notes {
@@ -45,7 +46,8 @@ impl Notes {
         }
     }
 
-    pub(crate) fn as_slice(&self) -> &[Note]
+    /// The notes in order.
+    pub fn as_slice(&self) -> &[Note]
         ensures items { result.now ≡ self.now }
         ensures bound { length result.now ≤ 8 }
     {
@@ -70,7 +72,7 @@ impl Notes {
 
     /// What the word at a place was before the noted changes.
     #[tactic(auto, using(crate::proofs::Undone::undoing))]
-    pub(crate) fn before(&self, store: &Store, at: u32) -> u32
+    pub fn before(&self, store: &Store, at: u32) -> u32
         requires { at < length store.now }
         ensures { result ≡ slice_index (undone store.now self.now) at }
     {
@@ -84,7 +86,7 @@ impl Notes {
 
     /// Changes the word at a place, and notes what it was where it changes for the first time.
     #[tactic(auto, using(crate::proofs::Undone::undoing))]
-    pub(crate) fn put(&mut self, store: &mut Store, at: u32, value: u32)
+    pub fn put(&mut self, store: &mut Store, at: u32, value: u32)
         requires at { at < length store.old }
         requires room { slice_index (undone store.old self.old) at ≢ value → length self.old < 8 }
         ensures put { store.new ≡ slice_set store.old at value }
@@ -102,6 +104,20 @@ impl Notes {
             self.push(at, before);
         }
         store.put(at, value);
+    }
+
+    /// Puts the noted words back as they were, and notes nothing any more.
+    #[tactic(auto, using(crate::proofs::Undone::undoing))]
+    pub fn undo(&mut self, store: &mut Store)
+        requires { is_exact store.old self.old ≡ true }
+        ensures store { store.new ≡ undone store.old self.old }
+        ensures none { self.new ≡ [] }
+    {
+        while self.len > 0 {
+            let note = self.items[self.len as usize - 1];
+            store.put(note.at, note.before);
+            self.len -= 1;
+        }
     }
 
     // Whether the word at a place from `from` on was another before.
@@ -136,7 +152,7 @@ impl Notes {
 
     /// The words that are others now, by rising place.
     #[tactic(auto, using(crate::proofs::Told::telling))]
-    pub(crate) fn changed(&self, store: &Store) -> Changed
+    pub fn changed(&self, store: &Store) -> Changed
         ensures { result ≡ differences (undone store.now self.now) store.now }
     {
         if self.len == 0 {

@@ -137,7 +137,7 @@ impl Space for NotingBare<'_> {
 }
 
 /// Puts the registers into the control block in bare page `page`, and notes what changes.
-pub(crate) fn put_cpu(store: &mut Store, notes: &mut Notes, page: u32, cpu: &Cpu)
+pub fn put_cpu(store: &mut Store, notes: &mut Notes, page: u32, cpu: &Cpu)
     requires page { page < page_count store.old }
     requires room { length notes.old + changed_regs (regs_at (undone store.old notes.old) page) cpu.now ≤ 8 }
     ensures put { store.new ≡ put_regs store.old page cpu.now }
@@ -170,7 +170,7 @@ fn put_words(store: &mut Store, notes: &mut Notes, at: u32, words: &[u32])
 
 /// Tells a fault in the control block in bare page `page`, and notes what changes.
 #[tactic(auto, using(crate::proofs::Puts::faults))]
-pub(crate) fn put_fault(
+pub fn put_fault(
     store: &mut Store,
     notes: &mut Notes,
     page: u32,

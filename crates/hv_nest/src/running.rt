@@ -14,7 +14,7 @@ use hv_store::Store;
 
 /// The path of the machine that a hart with these registers runs.
 #[tactic(auto, using(crate::proofs::Follows::following))]
-pub(crate) fn path_of(store: &Store, cpu: &Cpu) -> Path
+pub fn path_of(store: &Store, cpu: &Cpu) -> Path
     requires { NextBelow (page_count store.now) cpu.now }
     ensures { result ≡ running_path store.now cpu.now }
 {

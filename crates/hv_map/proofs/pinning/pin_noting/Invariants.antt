@@ -10,6 +10,3 @@ invariant-loop-syllable l = record {
   rest : rest_of l.store l.chain (drop l.syllable-index l.syllable-items) ≡ pin_of l.store l.fn.path;
   listed : l.tables ≡ with_pages l.fn.tables (pin_pages l.store l.chain);
 }
-
-abbrev pub ghosts-child_noting : goal.ghosts-child_noting
-ghosts-child_noting a = record { name = a.blank.name; parts = a.blank.parts }

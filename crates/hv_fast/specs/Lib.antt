@@ -1,0 +1,4 @@
+pub mod Following
+pub mod Laws
+pub mod Marked
+pub mod Rides

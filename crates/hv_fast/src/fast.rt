@@ -1,0 +1,129 @@
+//! The engine that keeps pins and held translations beside the state.
+
+ghost use Rattle.std.specs.Prelude.{◌≡◌, ◌<◌, All, IfOk, IfSome, IfNone, List, ℕ, length};
+ghost use Rattle.hv_word.specs.Storage.{page_count};
+ghost use Rattle.hv_nest.specs.Changes.{differences};
+ghost use Rattle.hv_nest.specs.Frame.{IsFramedBy};
+ghost use Rattle.hv_nest.specs.Kinds.{NextBelow};
+ghost use Rattle.hv_nest.specs.Move.{moved_of, running_of};
+ghost use Rattle.hv_nest.specs.declared.outcome.StepKind.TheVariants.{Worked as WorkedKind};
+
+use crate::beside::Beside;
+use hv_cpu::Cpu;
+use hv_csr::pending;
+use hv_map::Path;
+use hv_nest::{Changed, Harts, Nested, Outcome, StepKind, path_of};
+use hv_store::Store;
+use std::alloc::{AllocError, Global};
+use std::marker::Model;
+
+/// A storage with harts. A machine inside others makes its steps by a pinned path and by held translations where it can, so
+/// that they take as long at every depth.
+#[derive(Drop)]
+pub struct Fast {
+    store: Store,
+    harts: Harts,
+    beside: Beside,
+}
+
+impl Model for Fast {
+    ghost use Rattle.hv_fast.specs.Engine.{Engine, IsFast};
+
+    ghost Value = { Engine };
+
+    ghost view = { λ f. record {
+      state = record { storage = f.store; harts = f.harts };
+      paths = f.beside.ids;
+      entries = f.beside.cache.entries;
+    } };
+
+    ghost invariant = { λ f. IsFast f.store f.harts f.beside };
+}
+
+impl Fast {
+    /// An engine over a storage and harts, each of whose next, if it has one, is a page of the storage.
+    pub fn new(alloc: Global, store: Store, harts: Harts) -> Result<Fast, AllocError>
+        requires { All (NextBelow (page_count store)) harts }
+        ensures { IfOk result (λ f. f.state ≡ record { storage = store; harts = harts }) }
+    {
+        let beside = Beside::new(alloc, harts.count())?;
+        Ok(Fast {
+            store,
+            harts,
+            beside,
+        })
+    }
+
+    // The step of a hart by its pin, with the words that it changed; none where it has to be found anew, and then nothing changed.
+    #[inline(always)]
+    fn ride(&mut self, hart: u32) -> Option<Changed>
+        requires { hart < length self.old.state.harts }
+        ensures moves { IfSome result (λ rows. record { kind = WorkedKind; state = self.new.state } ≡ moved_of self.old.state hart) }
+        ensures changed { IfSome result (λ rows. rows ≡ differences self.old.state.storage self.new.state.storage) }
+        ensures frame { IfSome result (λ rows. IsFramedBy self.old.state.storage (running_of self.old.state hart) self.new.state.storage) }
+        ensures none { IfNone result (self.new.state ≡ self.old.state) }
+        ensures harts { length self.new.state.harts ≡ length self.old.state.harts }
+        ensures len { length self.new.state.storage ≡ length self.old.state.storage }
+    {
+        let cpu = self.harts.at(hart);
+        if cpu.next.is_none() || pending(cpu).is_some() || !self.beside.ready(&self.store, cpu, hart) {
+            return None;
+        }
+        self.beside.ride(&mut self.store, hart)
+    }
+
+    // The step of a hart, found anew.
+    #[inline(always)]
+    fn step_anew(&mut self, hart: u32) -> Outcome
+        requires { hart < length self.old.state.harts }
+        ensures moves { record { kind = result.kind; state = self.new.state } ≡ moved_of self.old.state hart }
+        ensures changed { result.changed ≡ differences self.old.state.storage self.new.state.storage }
+        ensures frame { IsFramedBy self.old.state.storage (running_of self.old.state hart) self.new.state.storage }
+        ensures harts { length self.new.state.harts ≡ length self.old.state.harts }
+        ensures len { length self.new.state.storage ≡ length self.old.state.storage }
+    {
+        let _pages = self.store.pages();
+        let outcome = self.harts.step(&mut self.store, hart);
+        self.beside.after(&self.store, hart, &outcome.changed);
+        outcome
+    }
+}
+
+impl Nested for Fast {
+    ghost state = { λ f. f.state };
+
+    #[inline(always)]
+    fn step(&mut self, hart: u32) -> Outcome {
+        match self.ride(hart) {
+            Some(changed) => Outcome {
+                kind: StepKind::Worked,
+                changed,
+            },
+            None => self.step_anew(hart),
+        }
+    }
+
+    fn lines(&mut self, hart: u32, mask: u32) {
+        self.harts.set_lines(hart, mask);
+    }
+
+    fn running(&mut self, hart: u32) -> Path {
+        self.beside.path(&self.store, self.harts.at(hart), hart)
+    }
+
+    fn cpu(&self, hart: u32) -> Cpu {
+        self.harts.get(hart)
+    }
+
+    fn mip(&self, hart: u32) -> u32 {
+        self.harts.at(hart).mip
+    }
+
+    fn harts(&self) -> u32 {
+        self.harts.count()
+    }
+
+    fn parked(&self) -> &Store {
+        &self.store
+    }
+}

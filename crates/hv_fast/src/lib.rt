@@ -1,0 +1,5 @@
+//! The fast engine: paths that are pinned, and translations that are held.
+#![tactic(auto)]
+
+mod following;
+pub mod laws;

@@ -1,0 +1,183 @@
+//! One instruction of the machine at the end of a pinned path, by translations at hand.
+
+ghost use Rattle.std.specs.Prelude.{◌≡◌, ◌<◌, [], true, false, Some, length};
+ghost use Rattle.hv_word.specs.Storage.{page_count};
+ghost use Rattle.hv_block.specs.Block.{pages_at, regs_at};
+ghost use Rattle.hv_map.specs.Chain.{map_along};
+ghost use Rattle.hv_nest.specs.Notes.{undone, is_exact};
+ghost use Rattle.hv_fast.specs.Memo.{Opens};
+ghost use Rattle.hv_fast.specs.Rides.{HasRidden, has_noted_mark};
+
+use crate::marks::Marks;
+use crate::memo::Memo;
+use hv_block::block_word;
+use hv_cache::MapCache;
+use hv_cpu::Cpu;
+use hv_exec::act;
+use hv_map::{Chain, View, page_slot};
+use hv_nest::{Notes, put_cpu, put_fault};
+use hv_store::{Access, Refusal, Space, Store, Way};
+use hv_word::{Lane, lane_put};
+
+/// A page that was asked for and wasn't at hand, and the access.
+#[derive(Clone, Copy)]
+pub(crate) struct Miss {
+    pub(crate) page: u32,
+    pub(crate) access: Access,
+}
+
+/// The store as the last machine of a chain sees it, where pages are found at hand, if they are there, and the words that change
+/// are noted.
+#[derive(Drop)]
+pub(crate) struct Riding<'a> {
+    pub(crate) store: &'a mut Store,
+    pub(crate) chain: &'a Chain,
+    pub(crate) memo: &'a Memo,
+    pub(crate) notes: &'a mut Notes,
+    pub(crate) missed: &'a mut Option<Miss>,
+    ghost exact: { is_exact store.now notes.now ≡ true },
+    ghost right: { Opens (undone store.now notes.now) chain.now memo.now },
+}
+
+impl Riding<'_> {
+    // Remembers that a page wasn't at hand.
+    #[inline(never)]
+    fn miss(&mut self, page: u32, access: Access) {
+        *self.missed = Some(Miss { page, access });
+    }
+}
+
+impl Space for Riding<'_> {
+    ghost use Rattle.std.specs.Prelude.{[], ◌∷◌, ◌-◌, length, map};
+    ghost use Rattle.hv_map.specs.Chain.{map_along};
+    ghost use Rattle.hv_map.specs.Links.{framed};
+    ghost use Rattle.hv_nest.specs.Notes.{undone};
+
+    ghost storage = { λ v. v.store.now };
+
+    ghost slots = { λ v. map_along v.store.now v.chain.now };
+
+    ghost depth = { λ v. length v.chain.now };
+
+    ghost place = { λ v. v.store.ghost_name ∷ v.notes.ghost_name ∷ [] };
+
+    ghost frame = { λ v. map framed v.chain.now };
+
+    ghost origin = { λ v. undone v.store.now v.notes.now };
+
+    ghost room = { λ v. 1 - length v.notes.now };
+
+    #[inline(always)]
+    fn pages(&self) -> u32 {
+        self.chain.pages(self.store)
+    }
+
+    #[inline(always)]
+    fn read(&mut self, page: u32, word: u32, access: Access) -> Result<u32, Refusal> {
+        let _pages = self.chain.pages(self.store);
+        if let Some(host) = self.memo.get(page, access) {
+            return Ok(block_word(self.store, host, word));
+        }
+        *self.missed = Some(Miss { page, access });
+        View {
+            store: self.store,
+            chain: self.chain,
+        }
+        .read(page, word, access)
+    }
+
+    #[inline(always)]
+    fn write(&mut self, page: u32, word: u32, lane: Lane, value: u32) -> Result<(), Refusal> {
+        let _pages = self.chain.pages(self.store);
+        let host = match self.memo.get(page, Access::Write) {
+            Some(host) => host,
+            None => {
+                *self.missed = Some(Miss { page, access: Access::Write });
+                let Way::Open { host } = page_slot(self.store, self.chain, page).write else {
+                    return View {
+                        store: self.store,
+                        chain: self.chain,
+                    }
+                    .write(page, word, lane, value);
+                };
+                host
+            }
+        };
+        let _pages = self.store.pages();
+        let old = block_word(self.store, host, word);
+        self.notes
+            .put(self.store, 1024 * host + word, lane_put(old, lane, value));
+        Ok(())
+    }
+
+    fn clear_fault(&mut self, page: u32) -> Result<(), Refusal> {
+        let Way::Open { host } = page_slot(self.store, self.chain, page).write else {
+            return View {
+                store: self.store,
+                chain: self.chain,
+            }
+            .clear_fault(page);
+        };
+        put_fault(self.store, self.notes, host, 0, 0, 0);
+        Ok(())
+    }
+}
+
+/// Makes one instruction of the last machine of a chain, whose registers `cpu` are those in its block in bare page `block`, and
+/// puts its registers into its block. It answers whether it did: not where its map refuses, nor where something rests on a
+/// word that the instruction writes, or on its block as on a table; then nothing changed.
+pub(crate) fn ride(
+    store: &mut Store,
+    notes: &mut Notes,
+    chain: &Chain,
+    memo: &Memo,
+    block: u32,
+    marks: &Marks,
+    cache: &MapCache,
+    cpu: &mut Cpu,
+    missed: &mut Option<Miss>,
+) -> bool
+    requires fresh { notes.old ≡ [] }
+    requires memo { Opens store.old chain.now memo.now }
+    requires there { block < page_count store.old }
+    requires cpu { regs_at store.old block ≡ cpu.old }
+    requires next { cpu.old.next ≡ 0 }
+    requires pages { length (map_along store.old chain.now) ≡ pages_at store.old block }
+    ensures origin { undone store.new notes.new ≡ store.old }
+    ensures len { length store.new ≡ length store.old }
+    ensures rode { result ≡ true → HasRidden store.old store.new marks.now cache.now.entries chain.now block cpu.old cpu.new }
+    ensures not { result ≡ false → (store.new ≡ store.old) × (cpu.new ≡ cpu.old) × (notes.new ≡ []) }
+{
+    if marks.is_table(block) || cache.table_watched(block) {
+        return false;
+    }
+    let before = *cpu;
+    let mut riding = Riding {
+        store,
+        chain,
+        memo,
+        notes,
+        missed,
+    };
+    if act(cpu, 0, &mut riding).is_err() {
+        return false;
+    }
+    if any_marked(marks, cache, notes) {
+        notes.undo(store);
+        *cpu = before;
+        return false;
+    }
+    put_cpu(store, notes, block, cpu);
+    true
+}
+
+// Whether something rests on a page with a noted word.
+#[inline(always)]
+fn any_marked(marks: &Marks, cache: &MapCache, notes: &Notes) -> bool
+    ensures { result ≡ has_noted_mark marks.now cache.now.entries notes.now }
+{
+    notes
+        .as_slice()
+        .iter()
+        .any(|note| marks.has_mark(note.at / 1024) || cache.watched(note.at / 1024))
+}

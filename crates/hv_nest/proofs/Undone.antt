@@ -1,5 +1,6 @@
 -- What follows from putting noted words back.
-use Rattle.std.proofs.Common.{◌≡◌, ◌≢◌, ℕ, suc, ◌+◌, ◌<◌, ◌≤◌, true, false, Bool, not, cond, ◌&&◌, List, [], ◌∷◌, ◌++◌, length, drop, get_or, set, refl, ap, ◌∙◌, sym, arith, length-set, get_or-set_other, get_or-set_same, eqb-true}
+use Rattle.std.proofs.Common.{◌≡◌, ◌≢◌, ℕ, suc, ◌+◌, ◌<◌, ◌≤◌, true, false, Bool, not, cond, ◌&&◌, List, [], ◌∷◌, ◌++◌, length, drop, get_or, set, refl, ap, ◌∙◌, sym, arith, length-set, get_or-set_other, get_or-set_same, eqb-true, subst}
+use Rattle.std.specs.List.{AllByRecursion}
 use Rattle.std.specs.Prelude.{◌==◌, ◌||◌, nat_lt}
 use Rattle.std.proofs.Math.Seq.{drop-cons}
 use Rattle.std.proofs.Math.Numerals.{add-one}
@@ -30,6 +31,54 @@ pub undone-snoc : (T : List ℕ) (notes : List Note) (n : Note) → undone T (no
 unfolding undone
 undone-snoc T [] n = refl
 undone-snoc T (m ∷ notes) n = ap (λ (U : List ℕ). set U m.at m.before) (undone-snoc T notes n)
+
+-- each noted place is below n
+abbrev pub NotedBelow : ℕ → List Note → Type 0
+NotedBelow n notes = AllByRecursion (λ (m : Note). m.at < n) notes
+
+-- exact notes are of places inside the storage
+pub exact_below : (T : List ℕ) (notes : List Note) → is_exact T notes ≡ true → NotedBelow (length T) notes
+unfolding is_exact
+exact_below T [] e = tt
+exact_below T (n ∷ notes) e =
+    let in_range = and_parts (nat_lt n.at (length T)) (not (n.before == get_or T n.at 0) && (not (is_noted n.at notes) && is_exact T notes)) e in
+    let old = and_parts (not (n.before == get_or T n.at 0)) (not (is_noted n.at notes) && is_exact T notes) in_range.1 in
+    let tail = and_parts (not (is_noted n.at notes)) (is_exact T notes) old.1 in
+    (ltb-true n.at (length T) in_range.0, exact_below T notes tail.1)
+
+-- and so they are where the last note is taken away
+below_snoc : (n : ℕ) (notes : List Note) (m : Note) → NotedBelow n (notes ++ m ∷ []) → NotedBelow n notes × (m.at < n)
+below_snoc n [] m h = (tt, h.0)
+below_snoc n (x ∷ xs) m h = let rest = below_snoc n xs m h.1 in ((h.0, rest.0), rest.1)
+
+pub last_below : (n : ℕ) (notes rest : List Note) (m : Note) → notes ≡ rest ++ m ∷ [] → NotedBelow n notes → m.at < n
+last_below n notes rest m e h = (below_snoc n rest m (subst (NotedBelow n) e h)).1
+
+-- Putting the last noted word back leaves the others to be put back.
+pub rest_undone : (S T U : List ℕ) (notes rest : List Note) (m : Note)
+    → notes ≡ rest ++ m ∷ []
+    → U ≡ set T m.at m.before
+    → undone T notes ≡ S
+    → undone U rest ≡ S
+rest_undone S T U notes rest m e put origin =
+    ap (λ (V : List ℕ). undone V rest) put
+    ∙ sym (undone-snoc T rest m)
+    ∙ ap (undone T) (sym e)
+    ∙ origin
+
+pub rest_below : (T U : List ℕ) (notes rest : List Note) (m : Note)
+    → notes ≡ rest ++ m ∷ []
+    → U ≡ set T m.at m.before
+    → NotedBelow (length T) notes
+    → NotedBelow (length U) rest
+rest_below T U notes rest m e put h =
+    subst (λ (n : ℕ). NotedBelow n rest) (sym (ap length put ∙ length-set T m.at m.before))
+    (below_snoc (length T) rest m (subst (NotedBelow (length T)) e h)).0
+
+-- nothing is left to be put back
+pub all_undone : (S T : List ℕ) (notes : List Note) → notes ≡ [] → undone T notes ≡ S → T ≡ S
+unfolding undone
+all_undone S T notes e origin = ap (undone T) (sym e) ∙ origin
 
 -- a word that changes and is noted
 pub put_new : (T : List ℕ) (notes : List Note) (a v : ℕ) → undone (set T a v) (notes ++ record { at = a; before = get_or T a 0 } ∷ []) ≡ undone T notes
@@ -203,3 +252,5 @@ few_notes T (n ∷ notes) ps e f =
             f a (has-without n.at a ps ne z) ∙ get_or-set_other (undone T notes) n.at a n.before 0 (λ w. ne (sym w))
 
 pub ruleset undoing = (put_new, put_noted, put_same, undone_at, exact_more, noted_apart, undone_here, undone_later, undone_end)
+
+pub ruleset taking_back = (exact_below, last_below)

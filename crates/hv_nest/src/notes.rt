@@ -107,17 +107,24 @@ impl Notes {
     }
 
     /// Puts the noted words back as they were, and notes nothing any more.
-    #[tactic(auto, using(crate::proofs::Undone::undoing))]
+    #[tactic(auto, using(crate::proofs::Undone::taking_back))]
     pub fn undo(&mut self, store: &mut Store)
         requires { is_exact store.old self.old ≡ true }
         ensures store { store.new ≡ undone store.old self.old }
         ensures none { self.new ≡ [] }
     {
-        while self.len > 0 {
-            let note = self.items[self.len as usize - 1];
+        while let Some(note) = self.pop() {
             store.put(note.at, note.before);
-            self.len -= 1;
         }
+    }
+
+    // Takes the last note away.
+    fn pop(&mut self) -> Option<Note>
+        ensures some { IfSome result (λ note. self.old ≡ self.new ++ note ∷ []) }
+        ensures none { IfNone result ((self.old ≡ []) × (self.new ≡ [])) }
+    {
+        self.len = self.len.checked_sub(1)?;
+        Some(self.items[self.len as usize])
     }
 
     // Whether the word at a place from `from` on was another before.

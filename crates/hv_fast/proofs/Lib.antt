@@ -1,5 +1,8 @@
 pub mod Descending
+mod Erasing
 pub mod Follows
 pub mod Growing
+mod Putting
+pub mod Remembering
 pub mod Saying
 pub mod Staying

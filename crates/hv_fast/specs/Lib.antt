@@ -1,4 +1,9 @@
+pub mod Beside
+pub mod Engine
 pub mod Following
+pub mod Holds
 pub mod Laws
 pub mod Marked
+pub mod Marking
+pub mod Memo
 pub mod Rides

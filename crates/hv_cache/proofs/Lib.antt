@@ -1,0 +1,4 @@
+pub mod Forgotten
+pub mod Occurring
+pub mod Tallies
+pub mod Totals

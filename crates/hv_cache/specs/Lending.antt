@@ -1,0 +1,11 @@
+-- What a cache is once a reference into it has ended.
+use Rattle.std.specs.Prelude.{◌≡◌, ℕ, List, ⊤}
+use Rattle.std.specs.Borrow.{Fml, MutBor, follows_so}
+use mathlib.Core.Option.{none}
+use Rattle.lru.specs.LruCache.{lru_cache}
+use Rattle.hv_cache.specs.Holding.{Entry, Holding}
+use Rattle.hv_cache.specs.contracts.entries.Entries.{the_row}
+
+-- it has the entries es
+abbrev pub EntriesEndAs : MutBor Holding → List Entry → Fml
+EntriesEndAs c es = follows_so the_row the_row c.ghost_name none (λ _ _. ⊤) (λ n. n ≡ lru_cache es c.now.cap)

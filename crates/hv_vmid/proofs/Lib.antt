@@ -1,0 +1,4 @@
+pub mod Adding
+pub mod Numbering
+pub mod Prefixes
+pub mod Walking

@@ -57,7 +57,7 @@ memo_kept S T items gs hs m keeps right a =
     All-weaker (λ (e : Entry). e.page ≢ nothing → IsHeldAt S items gs a e.page e.host) (λ (e : Entry). e.page ≢ nothing → IsHeldAt T items hs a e.page e.host)
     (λ e held some.
     let h = held some in
-    record { slot = h.slot; held = h.held; opens = h.opens })
+    record { slot = h.slot; held = keeps e.page h.slot h.held; opens = h.opens })
     (entries_for m a) (right a)
 
 -- and where an entry is set to what is held

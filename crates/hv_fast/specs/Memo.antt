@@ -1,6 +1,7 @@
--- Translations at hand. For each access there are entries, each of which says in which bare page a page of a machine lies; a
--- page's entry is the one at its number modulo how many there are.
-use Rattle.std.specs.Prelude.{◌≡◌, ◌≢◌, ℕ, ◌%◌, ◌==◌, if◌then◌else◌, All, List, Option, None, Some, slice_get, slice_set}
+-- Translations at hand. For each access there are entries, each of which says in which bare page a page of a machine
+-- lies; a page's entry is the one at its number modulo how many there are.
+use Rattle.std.specs.Prelude.{◌≡◌, ◌≢◌, ℕ, ◌%◌, ◌==◌, if◌then◌else◌, All, List}
+use Rattle.std.specs.Prelude.{Option, None, Some, slice_get, slice_set}
 use Rattle.hv_store.specs.declared.access.Access.{Access}
 use Rattle.hv_store.specs.declared.access.Access.TheVariants.{Fetch, Read, Write}
 use Rattle.hv_store.specs.declared.access.Slot.{Slot}

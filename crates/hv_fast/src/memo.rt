@@ -33,17 +33,6 @@ pub(crate) struct Memo {
     writes: [Entry; WAYS],
 }
 
-// Entries that hold nothing.
-fn no_entries() -> [Entry; WAYS]
-    ensures nothing { All (λ e. e.page ≡ nothing) result }
-    ensures ways { length result ≡ ways }
-{
-    [Entry {
-        page: NOTHING,
-        host: 0,
-    }; WAYS]
-}
-
 impl Model for Memo {
     ghost use Rattle.std.specs.Prelude.{◌≡◌, length};
     ghost use Rattle.hv_fast.specs.Memo.{Entries, ways};
@@ -99,10 +88,12 @@ impl Memo {
     pub(crate) fn get(&self, page: u32, access: Access) -> Option<u32>
         requires { page < 2 ^ 20 }
         ensures host { result ≡ host_of self.now access page }
-        ensures opens { IfSome result (λ g. (S : List ℕ) (items : List Item) → Opens S items self.now → IsOpenAt S items access page g) }
+        ensures opens { IfSome result (λ g. (S : List ℕ) (items : List Item)
+            → Opens S items self.now
+            → IsOpenAt S items access page g) }
     {
         let entry = self.entries(access)[page as usize % WAYS];
-        if entry.page != NOTHING {
+        if entry.page == page {
             Some(entry.host)
         } else {
             None
@@ -127,4 +118,15 @@ impl Memo {
             Access::Write => self.writes[at] = entry,
         }
     }
+}
+
+// Entries that hold nothing.
+fn no_entries() -> [Entry; WAYS]
+    ensures nothing { All (λ e. e.page ≡ nothing) result }
+    ensures ways { length result ≡ ways }
+{
+    [Entry {
+        page: NOTHING,
+        host: 0,
+    }; WAYS]
 }

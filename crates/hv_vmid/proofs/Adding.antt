@@ -1,5 +1,5 @@
 -- A node that is added under the next key.
-use Rattle.std.proofs.Common.{◌≡◌, ◌≢◌, ℕ, suc, ◌+◌, ◌<◌, Bool, cond, List, [], ◌∷◌, ◌++◌, length, Option, Some, None, count_by, is_some, sym, ap, ◌∙◌, subst, arith}
+use Rattle.std.proofs.Common.{◌≡◌, ◌≢◌, ℕ, suc, ◌+◌, ◌<◌, cond, List, [], ◌∷◌, ◌++◌, length, Option, Some, None, count_by, is_some, sym, ap, ◌∙◌, subst, arith}
 use Rattle.hv_limits.specs.Limits.{depth_limit}
 use Rattle.hv_vmid.specs.Paths.{ids_limit, IsNumber, path_below, child_path, IsNew, IsNumbered}
 use Rattle.hv_vmid.specs.Nodes.{same_node, node_at, paths_of, IsKept}

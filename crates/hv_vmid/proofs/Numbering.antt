@@ -1,12 +1,12 @@
 -- The paths of nodes, one node after another, and what is known of them where the nodes are kept.
-use Rattle.std.proofs.Common.{◌≡◌, ◌≢◌, ℕ, zero, suc, ◌+◌, ◌<◌, ◌≤◌, Bool, true, false, cond, ◌&&◌, nat_eq, List, [], ◌∷◌, ◌++◌, length, get_or, take, Option, Some, None, slice_get, slice_index_or, refl, sym, ap, ◌∙◌, subst, inl, inr, arith, count_by, is_some}
+use Rattle.std.proofs.Common.{◌≡◌, ◌≢◌, ℕ, zero, suc, ◌<◌, ◌≤◌, Bool, true, false, cond, ◌&&◌, nat_eq, List, [], ◌∷◌, ◌++◌, length, Option, Some, None, slice_get, refl, sym, ap, ◌∙◌, subst, inl, inr, arith, count_by, is_some}
 use Rattle.std.proofs.lemmas.Bool.{cases_eq, cases_lt, eqb-true, eq-eqb}
-use Rattle.std.proofs.lemmas.List.{get_or_append_left, length_push, take-append-le, take_all}
+use Rattle.std.proofs.lemmas.List.{get_or_append_left, length_push}
 use Rattle.std.proofs.lemmas.Option.{slice_get_within, slice_get-get_or, get_or_from_slice_get}
 use Rattle.std.proofs.Math.Seq.{get_or-append_seam}
 use Rattle.std.specs.Option.{option_eq}
 use Rattle.hv_limits.specs.Limits.{depth_limit}
-use Rattle.hv_vmid.specs.Paths.{ids_limit, IsNumber, path_at, path_below, child_path, IsNew, IsChild, IsNumbered}
+use Rattle.hv_vmid.specs.Paths.{ids_limit, IsNumber, path_at, path_below, child_path, IsNew, IsNumbered}
 use Rattle.hv_vmid.specs.Nodes.{same_node, node_at, with_node, paths_of, IsPlaced, IsKept}
 use Rattle.hv_vmid.specs.declared.ids.Node.{Node}
 

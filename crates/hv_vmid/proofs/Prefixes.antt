@@ -1,9 +1,9 @@
 -- Where a path has a number, so has each path on the way to it.
-use Rattle.std.proofs.Common.{◌≡◌, ◌≢◌, ℕ, zero, suc, ◌+◌, ◌<◌, ◌≤◌, List, [], ◌∷◌, ◌++◌, length, get_or, take, Option, Some, None, slice_get, refl, sym, ap, ◌∙◌, inl, inr, arith}
+use Rattle.std.proofs.Common.{◌≡◌, ◌≢◌, ℕ, zero, suc, ◌+◌, ◌<◌, ◌≤◌, List, [], ◌∷◌, ◌++◌, length, get_or, take, Option, Some, None, slice_get, sym, ap, ◌∙◌, inl, inr, arith}
 use Rattle.std.proofs.lemmas.Bool.{cases_eq}
 use Rattle.std.proofs.lemmas.List.{length_push, take-append-le, take_all, take_more}
 use Rattle.std.proofs.lemmas.Option.{slice_get_within, slice_get-get_or}
-use Rattle.hv_vmid.specs.Paths.{IsNumber, path_at, path_below, child_path, IsNew, IsChild, IsNumbered}
+use Rattle.hv_vmid.specs.Paths.{IsNumber, path_at, path_below, child_path, IsNew, IsNumbered}
 
 module _ (paths : List (List ℕ)) (N : IsNumbered paths) where
   -- the path at a number has a number for its first i syllables

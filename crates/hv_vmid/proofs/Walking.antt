@@ -1,8 +1,8 @@
 -- From a number to its path, by the node that is kept under it.
-use Rattle.std.proofs.Common.{◌≡◌, ℕ, ◌<◌, ◌≤◌, List, [], ◌∷◌, ◌++◌, length, Option, Some, IsSome, slice_get, refl, sym, ap, ◌∙◌, subst, arith}
+use Rattle.std.proofs.Common.{◌≡◌, ℕ, ◌<◌, List, length, Option, Some, IsSome, slice_get, refl, sym, ap, ◌∙◌, subst, arith}
 use Rattle.std.proofs.lemmas.List.{length_push}
 use Rattle.hv_limits.specs.Limits.{depth_limit}
-use Rattle.hv_vmid.specs.Paths.{IsNumber, path_at, path_below, child_path}
+use Rattle.hv_vmid.specs.Paths.{IsNumber, path_below, child_path}
 use Rattle.hv_vmid.specs.Nodes.{node_at, paths_of, IsKept}
 use Rattle.hv_vmid.specs.declared.ids.Node.{Node}
 use Rattle.hv_vmid.proofs.Numbering.{kept-earlier, kept-get, kept-length, kept-path}

@@ -1,9 +1,8 @@
 -- The parent's path, and the node's syllable behind it.
-use Rattle.std.proofs.Common.{◌≡◌, ◌∙◌, ℕ, ◌<◌, List, [], ◌∷◌, ◌++◌, length, Option, Some, None, slice_get, refl, sym, ap, subst, arith}
+use Rattle.std.proofs.Common.{◌≡◌, ◌∙◌, ℕ, List, [], ◌∷◌, ◌++◌, length, Some, sym, ap, subst, arith}
 use Rattle.std.proofs.lemmas.Option.{get_or_from_slice_get}
-use Rattle.hv_limits.specs.Limits.{depth_limit}
 use Rattle.hv_vmid.specs.Paths.{IsNumber, path_below}
-use Rattle.hv_vmid.proofs.Walking.{Stands, has-node, stands}
+use Rattle.hv_vmid.proofs.Walking.{has-node, stands}
 use Rattle.hv_vmid.proofs.ids.Ids.+path_of.Goals as goal
 use Rattle.hv_vmid.proofs.ids.Ids.+path_of.Goals.{in-Some, in-None}
 

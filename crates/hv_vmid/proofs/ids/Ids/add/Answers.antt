@@ -1,5 +1,5 @@
 -- The node is added under the next key.
-use Rattle.std.proofs.Common.{◌≡◌, ◌∙◌, ℕ, List, cond, Option, Some, length, sym, ap, subst}
+use Rattle.std.proofs.Common.{◌∙◌, ℕ, cond, Some, length, sym, ap}
 use Rattle.std.specs.HashMap as hash
 use Rattle.slab.specs.Slab.{Slab, slab_len}
 use Rattle.hv_vmid.specs.Nodes.{same_node}

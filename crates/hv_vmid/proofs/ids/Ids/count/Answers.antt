@@ -1,5 +1,5 @@
 -- A path for each node.
-use Rattle.std.proofs.Common.{◌≡◌, ◌∙◌, length, sym, ap}
+use Rattle.std.proofs.Common.{◌∙◌, length, sym, ap}
 use Rattle.hv_vmid.proofs.Numbering.{kept-length}
 use Rattle.hv_vmid.proofs.ids.Ids.count.Goals as goal
 

@@ -1,9 +1,9 @@
 -- Syllable by syllable, the path so far has the number that is kept.
-use Rattle.std.proofs.Common.{◌≡◌, ◌∙◌, ℕ, ◌+◌, ◌<◌, ◌≤◌, List, [], ◌∷◌, ◌++◌, length, get_or, take, Option, Some, None, slice_get, sym, ap, subst, arith, MatchOption}
+use Rattle.std.proofs.Common.{◌≡◌, ◌∙◌, ℕ, ◌<◌, ◌≤◌, List, [], ◌∷◌, ◌++◌, length, get_or, take, Option, Some, None, slice_get, sym, ap, subst, arith, MatchOption}
 use Rattle.std.proofs.lemmas.Bool.{eqb-true}
 use Rattle.std.proofs.lemmas.List.{take_all, take_more}
 use Rattle.std.proofs.lemmas.Option.{get_or_from_slice_get, slice_get-get_or, slice_get_within}
-use Rattle.hv_vmid.specs.Paths.{IsNumber, IsNew, IsNumbered, path_at, path_below, child_path}
+use Rattle.hv_vmid.specs.Paths.{IsNumber, IsNew, IsNumbered, path_below, child_path}
 use Rattle.hv_vmid.proofs.Numbering.{kept-length, kept-numbered}
 use Rattle.hv_vmid.proofs.Prefixes.{new-below, new-empty}
 use Rattle.hv_vmid.proofs.ids.Ids.find.Goals as goal

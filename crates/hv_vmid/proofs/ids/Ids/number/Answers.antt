@@ -1,5 +1,5 @@
 -- What is found has the path of its node, and what isn't found has no number.
-use Rattle.std.proofs.Common.{◌≡◌, ℕ, List, ◌∷◌, ◌++◌, length, Option, Some, None, refl, sym, ap, ◌∙◌, subst, MatchOption, slice_get}
+use Rattle.std.proofs.Common.{◌≡◌, ℕ, List, length, Option, Some, None, sym, ap, ◌∙◌, subst, MatchOption, slice_get}
 use Rattle.std.specs.HashMap as hash
 use Rattle.hv_vmid.specs.Paths.{IsNumber, child_path, IsNew, IsNumbered}
 use Rattle.hv_vmid.specs.Nodes.{same_node, paths_of, IsKept}

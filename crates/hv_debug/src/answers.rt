@@ -1,10 +1,10 @@
 //! What commands answer.
 
-ghost use Rattle.std.specs.Prelude.{◌≡◌, ◌++◌, ◌≤◌, ◌<◌, OnOk, length, take};
+ghost use Rattle.std.specs.Prelude.{◌≡◌, ◌++◌, ◌<◌, OnOk, length};
 ghost use Rattle.hv_run.specs.Play.{play_record};
 ghost use Rattle.hv_map.specs.Chain.{map_along};
 ghost use Rattle.hv_report.specs.Report.{faults_text, hart_text};
-ghost use Rattle.hv_debug.specs.Answers.{at_line, echo_line, end_text, map_text, mem_text, page_trail, pages_text, regs_text, stop_text, trail_line, trail_text, word_text};
+ghost use Rattle.hv_debug.specs.Answers.{at_line, echo_line, end_text, map_text, mem_text, page_trail, pages_text, regs_text, stop_text, trail_text};
 
 use crate::machines::{chain_of, page_of};
 use crate::stop::Stop;

@@ -1,6 +1,6 @@
 //! Playing a schedule step by step.
 
-ghost use Rattle.std.specs.Prelude.{◌≡◌, length};
+ghost use Rattle.std.specs.Prelude.{length};
 ghost use Rattle.hv_debug.specs.Reaching.{Advances, CanGo, Halts};
 
 use crate::counter::is_stopped;

@@ -1,5 +1,5 @@
 -- A text whose lines go all the way, and keep the limits, is the job that they say.
-use Rattle.std.proofs.Common.{◌≡◌, ◌≢◌, ℕ, ◌+◌, ◌≤◌, ◌<◌, Bool, true, false, not, cond, codes, List, [], ◌∷◌, ◌++◌, length, find, Option, Some, None, Result, Ok, Err, inl, inr, refl, sym, ap, ◌∙◌, subst, arith, append-nil, append_assoc}
+use Rattle.std.proofs.Common.{◌≡◌, ◌≢◌, ℕ, ◌+◌, ◌≤◌, ◌<◌, Bool, true, false, not, cond, codes, List, [], ◌∷◌, ◌++◌, length, Option, Some, None, Result, Ok, Err, inl, inr, refl, sym, ap, ◌∙◌, subst, arith, append-nil, append_assoc}
 use Rattle.std.specs.Result.{is_ok}
 use Rattle.std.proofs.lemmas.Bool.{eq-eqb}
 use Rattle.hv_asm.specs.Assembly.{asm_of}
@@ -8,22 +8,20 @@ use Rattle.hv_irq.specs.Events.{hart_of, is_line_mask, mask_of}
 use Rattle.hv_irq.specs.declared.Event.{Event}
 use Rattle.hv_irq.specs.declared.Event.TheVariants as event
 use Rattle.hv_lex.specs.Lines.{lines_of}
-use Rattle.hv_limits.specs.Limits.{lines_mask}
 use Rattle.hv_samples.specs.Samples.{sample_text}
 use Rattle.hv_samples.specs.declared.choice.Sample.{Sample}
 use Rattle.hv_line.specs.Commands.{command_of, join_words_of}
 use Rattle.hv_line.specs.JobLimits.{job_breaks, job_commands, job_harts}
 use Rattle.hv_line.specs.Lines.{begins_with, has_words, is_allowed, is_header, words_of}
-use Rattle.hv_line.specs.Statements.{◌>>=◌, statement_of}
+use Rattle.hv_line.specs.Statements.{◌>>=◌}
 use Rattle.hv_line.specs.declared.kinds.JobKind.{JobKind}
 use Rattle.hv_line.specs.declared.kinds.JobKind.TheVariants as fault
 use Rattle.hv_line.specs.declared.types.DebugCommand.{DebugCommand}
 use Rattle.hv_line.specs.declared.types.Directive.{Directive}
 use Rattle.hv_line.specs.declared.types.Directive.TheVariants as directive
-use Rattle.hv_line.specs.declared.types.Statement.{Statement}
 use Rattle.hv_job.specs.Commands.{commands_from, commands_then, commands_with, is_over, line_commands, new_commands}
 use Rattle.hv_job.specs.IsJob.{breaks_in}
-use Rattle.hv_job.specs.JobOf.{and_then, at_line, before_end, begins_image, behind_storage, body_from, directive_with, draft_of, event_with, harts_with, header_from, image_lines_with, image_of, image_with, image_words, is_debug, is_end, job_in, job_of, job_with, line_with, lines_with, sample_with, schedule_with, storage_from, words_with}
+use Rattle.hv_job.specs.JobOf.{and_then, at_line, before_end, begins_image, behind_storage, body_from, directive_with, draft_of, event_with, harts_with, header_from, image_lines_with, image_of, image_with, image_words, is_debug, job_in, job_of, job_with, line_with, lines_with, sample_with, schedule_with, storage_from, words_with}
 use Rattle.hv_job.specs.declared.job.DebugLine.{DebugLine as Command}
 use Rattle.hv_job.specs.declared.job.Job.{Job}
 use Rattle.hv_grammar.specs.Forms.{Form, IsInRange, IsLine, Harts, Image, Sampled, Turn, Lines}

@@ -1,5 +1,5 @@
 -- The room that the limits leave for what is said behind a draft.
-use Rattle.std.proofs.Common.{◌≡◌, ℕ, ◌+◌, ◌*◌, ◌≤◌, ◌<◌, nat_le, nat_lt, Bool, true, false, not, cond, bit_and, List, [], ◌∷◌, ◌++◌, length, sum_by, Option, Some, None, Result, Ok, Err, refl, sym, ap, ◌∙◌, subst, arith, append_assoc, length-append, zero-add}
+use Rattle.std.proofs.Common.{◌≡◌, ℕ, ◌+◌, ◌≤◌, ◌<◌, nat_le, nat_lt, Bool, true, false, not, cond, List, [], ◌∷◌, ◌++◌, length, sum_by, Option, Some, None, refl, sym, ap, ◌∙◌, subst, arith, append_assoc, length-append, zero-add}
 use Rattle.std.proofs.lemmas.Bool.Decides.{nat_tests}
 use Rattle.std.proofs.lemmas.List.Sums.{sum_by-append}
 use Rattle.hv_irq.specs.Events.{hart_of, is_line_mask, mask_of, refusal_of, steps_of, total_of}
@@ -17,7 +17,7 @@ use Rattle.hv_job.specs.IsJob.{breaks_in, bytes_of, count_of, image_bytes, is_br
 use Rattle.hv_job.specs.JobOf.{is_many}
 use Rattle.hv_job.specs.declared.job.DebugLine.{DebugLine as Command}
 use Rattle.hv_job.specs.declared.job.Placed.{Placed}
-use Rattle.hv_grammar.specs.Said.{Said, commands_said, events_by, events_said, placed_by, placed_said}
+use Rattle.hv_grammar.specs.Said.{Said, events_by, events_said, placed_by, placed_said}
 use Rattle.hv_grammar.specs.Within.{harts_by_line, harts_lines}
 use Rattle.hv_grammar.proofs.Deeds.{Draft}
 use Rattle.hv_grammar.proofs.Telling.{harts_count}

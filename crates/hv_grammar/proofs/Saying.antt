@@ -1,8 +1,8 @@
 -- The ways that a line may go from a place, with what it says.
-use Rattle.std.proofs.Common.{◌≡◌, ◌≢◌, ◌⊎◌, ℕ, Bool, true, false, not, cond, codes, List, [], ◌∷◌, inl, inr, refl, sym, ap, ◌∙◌, subst}
+use Rattle.std.proofs.Common.{◌≡◌, ◌≢◌, ◌⊎◌, ℕ, not, cond, codes, List, [], ◌∷◌, inl, inr, refl, sym, ap, ◌∙◌, subst}
 use Rattle.hv_line.specs.Lines.{words_of}
 use Rattle.hv_line.specs.declared.types.DebugCommand.{DebugCommand}
-use Rattle.hv_job.specs.JobOf.{before_end, is_end}
+use Rattle.hv_job.specs.JobOf.{before_end}
 use Rattle.hv_grammar.specs.Forms.{Form, Image, IsCall, IsLine, IsStorageLine}
 use Rattle.hv_grammar.specs.Said.{Said, Called, Directed, Inner, Nothing, StorageOf, inner_lines}
 use Rattle.hv_grammar.specs.Texts.{Goes, GoesOn, IsAllowed, IsAlone, IsOutside, IsOver, IsPlain, Place, AmongCommands, AmongDirectives, BeforeHeader, BeforeStorage, InsideImage, NoWords, Header, StorageLine, DirectiveLine, ImageLine, InnerLine, EndLine, DebugLine, CommandLine}

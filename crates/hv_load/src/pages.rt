@@ -1,9 +1,8 @@
 //! Where the pages and the words of a machine lie in the storage.
 
-ghost use Rattle.std.specs.Prelude.{◌≡◌, ◌*◌, ◌+◌, ◌-◌, ◌/◌, ◌%◌, ◌<◌, ◌≤◌, ◌^◌, ℕ, All, IfOk, IfSome, Some, length, slice_get};
+ghost use Rattle.std.specs.Prelude.{◌≡◌, ◌*◌, ◌+◌, ◌-◌, ◌/◌, ◌%◌, ◌<◌, ◌≤◌, ◌^◌, ℕ, IfOk, IfSome, Some, length, slice_get};
 ghost use Rattle.hv_word.specs.Storage.{page_count};
 ghost use Rattle.hv_map.specs.Chain.{map_along, map_of};
-ghost use Rattle.hv_limits.specs.Limits.{depth_limit};
 ghost use Rattle.hv_map.specs.Levels.{IsWayWithin, IsWithin};
 ghost use Rattle.hv_map.specs.Compose.{reading, table_of};
 ghost use Rattle.hv_load.specs.Pages.{block_page as block_page_of, opened as opened_by, outer as outer_of, page_named, reads_in, table_word_of, word_named, writes_in};

@@ -1,6 +1,6 @@
 //! What a job has come to while it is built is made of these.
 
-ghost use Rattle.std.specs.Prelude.{◌≡◌, ◌≤◌, IfOk, length, take, ◌-◌, ◌++◌, ◌∷◌, []};
+ghost use Rattle.std.specs.Prelude.{◌≡◌, ◌≤◌, IfOk, length, ◌-◌};
 ghost use Rattle.hv_load.specs.Building.{known as known_of, known_inside as known_inside_of, named as named_in};
 ghost use Rattle.hv_load.specs.Pages.{outer as outer_of};
 ghost use Rattle.hv_limits.specs.Limits.{depth_limit};

@@ -1,5 +1,5 @@
 -- The causes that a map gives where it refuses, and at which levels it does.
-use Rattle.std.proofs.Common.{◌≡◌, ℕ, ◌+◌, ◌/◌, ◌%◌, Bool, true, false, cond, ◌==◌, List, [], ◌∷◌, map, Option, Some, None, refl, ap, ◌∙◌, sym, subst, slice_get, option_map}
+use Rattle.std.proofs.Common.{◌≡◌, ℕ, ◌+◌, ◌/◌, ◌%◌, Bool, true, false, cond, ◌==◌, List, [], ◌∷◌, Option, Some, None, refl, sym, subst, slice_get, option_map}
 use Rattle.hv_word.specs.Words.{field_of}
 use Rattle.hv_word.specs.Storage.{word_at}
 use Rattle.hv_store.specs.declared.access.Access.{Access}

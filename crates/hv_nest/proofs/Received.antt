@@ -2,7 +2,7 @@
 use Rattle.std.proofs.Common.{◌≡◌, ℕ, zero, suc, ◌+◌, ◌*◌, ◌<◌, ◌≤◌, ◌⊎◌, inl, inr, Bool, true, false, cond, ◌==◌, List, [], ◌∷◌, length, take, set, get_or, get_or-set_same, get_or-set_other, length-set, Some, refl, ap, ◌∙◌, sym, subst, arith, slice_get}
 use Rattle.std.proofs.Math.Seq.{sets, length-sets}
 use Rattle.std.proofs.Math.Dec.{lit<, lit≤}
-use Rattle.std.proofs.lemmas.Bool.{cases_eq, eqb-true}
+use Rattle.std.proofs.lemmas.Bool.{cases_eq}
 use Rattle.std.proofs.lemmas.List.{get_or_past}
 use Rattle.std.proofs.lemmas.Option.{same_Some, slice_get_within}
 use Rattle.hv_word.specs.Storage.{page_count, word_at, with_word}

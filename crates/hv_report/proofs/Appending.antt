@@ -1,5 +1,5 @@
 -- One more piece of text behind those that are written.
-use Rattle.std.proofs.Common.{◌≡◌, ◌∙◌, ℕ, ◌+◌, List, [], ◌∷◌, ◌++◌, ap, sym, arith, append_assoc}
+use Rattle.std.proofs.Common.{◌≡◌, ◌∙◌, ℕ, ◌+◌, List, [], ◌++◌, ap, sym, arith, append_assoc}
 use Rattle.std.specs.List.{flat_map, range_with_len}
 use Rattle.hv_report.specs.Dumps.{bytes_of, words_bytes, page_line, first_lines}
 use Rattle.hv_nest.specs.State.{State}

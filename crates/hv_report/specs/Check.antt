@@ -3,7 +3,7 @@ use Rattle.std.specs.Prelude.{ℕ, ◌&&◌, not, Bool, nat_le, if◌then◌else
 use Rattle.std.specs.Prelude.{codes}
 use Rattle.std.specs.List.{flat_map}
 use Rattle.std.specs.Option.{option_map}
-use Rattle.hv_cpu.specs.Regs.{Regs, spelled, reset_regs}
+use Rattle.hv_cpu.specs.Regs.{Regs, reset_regs}
 use Rattle.hv_block.specs.Block.{regs_at}
 use Rattle.hv_store.specs.declared.access.Slot.{Slot}
 use Rattle.hv_map.specs.Chain.{map_of}

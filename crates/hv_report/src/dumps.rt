@@ -2,9 +2,8 @@
 
 ghost use Rattle.std.specs.Prelude.{◌≡◌, ◌<◌, ◌++◌, IfOk, IfSome, OnOk};
 ghost use Rattle.std.specs.List.{list_all};
-ghost use Rattle.hex.specs.Hex.{encode_lower};
 ghost use Rattle.hv_word.specs.Storage.{page_count};
-ghost use Rattle.hv_report.specs.Dumps.{bytes_line, dump_text, dumps_text, is_zero, line_bytes as line_bytes_of, offset_text, page_lines, page_read, page_text};
+ghost use Rattle.hv_report.specs.Dumps.{bytes_line, dump_text, dumps_text, is_zero, line_bytes as line_bytes_of, offset_text, page_lines, page_read};
 
 use hv_block::block_word;
 use hv_load::Dump;

@@ -1,4 +1,4 @@
-use Rattle.std.proofs.Common.{◌≡◌, ◌∙◌, ◌++◌, ◌≤◌, ℕ, List, ap, arith}
+use Rattle.std.proofs.Common.{◌≡◌, ◌∙◌, ◌++◌, ℕ, ap, arith}
 use Rattle.hv_report.specs.Dumps.{first_lines}
 use Rattle.hv_report.proofs.dumps.put_page.Goals as goal
 

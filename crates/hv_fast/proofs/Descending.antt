@@ -20,7 +20,7 @@ use Rattle.hv_map.specs.Held.{IsPlaced, Nexts, Placed}
 use Rattle.hv_map.specs.Item.{Item}
 use Rattle.hv_map.specs.Links.{last_block}
 use Rattle.hv_map.specs.Gathered.{Listed, Gathered, bare_gathered_map, gathered_map, slots_of}
-use Rattle.hv_map.proofs.GatheredMaps.{slots-bare, slots-notes}
+use Rattle.hv_map.proofs.GatheredMaps.{slots-bare, slots-gathered_map}
 use Rattle.hv_nest.specs.Step.{Worked, act_step, child_at, child_step, child_through, host_step_of, put_back, step_of, step_on}
 use Rattle.hv_nest.proofs.Rows.{row_acts}
 use Rattle.hv_fast.specs.Laws.{RideLaw}
@@ -95,7 +95,7 @@ descends (suc n) S T q g N F p j h r x [] is short placed nexts quiet last idle 
 descends (suc n) S T q g N F p j h r x (y ∷ ys) is short placed nexts quiet last idle acts returns =
     let G : List Slot = compose S F j x.pages x.table x.version in
     let deeper : slots_of (gathered_map S N j x.pages x.table x.version) ≡ G =
-    slots-notes S N j x.pages x.table x.version ∙ ap (λ (H : List Slot). compose S H j x.pages x.table x.version) is
+    slots-gathered_map S N j x.pages x.table x.version ∙ ap (λ (H : List Slot). compose S H j x.pages x.table x.version) is
     in
     goes_in n S N F p j h r x is placed.0 nexts.0.0 nexts.0.1 quiet.0
     ∙ ap (put_back S j r x.block)

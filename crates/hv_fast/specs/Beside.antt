@@ -9,7 +9,7 @@ use Rattle.hv_map.specs.Held.{IsHeld, IsPin}
 use Rattle.hv_map.specs.Item.{Item}
 use Rattle.hv_map.specs.Links.{last_block}
 use Rattle.hv_map.specs.Words.{syllables}
-use Rattle.hv_cache.specs.Holding.{Entry}
+use Rattle.hv_cache.specs.Holding.{Entry, without_page}
 use Rattle.hv_fast.specs.declared.beside.Beside.{Beside}
 use Rattle.hv_fast.specs.declared.pin.Pin.{Pin}
 use Rattle.hv_fast.specs.Marked.{BlocksIn, Marked, has_mark, listed}
@@ -97,4 +97,4 @@ pub record WordIsSpared (T : List ℕ) (a : ℕ) (b c : Beside) : Type 0 where
   pub pins : SamePins b c ⊎ (All (λ (p : Pin). p.live ≡ false) c.pins.items × (c.rider ≡ None))
   pub unmarked : has_mark c.marks (a / 1024) ≡ false
   pub spared : AllByRecursion (IsSpared T a) c.cache.entries
-  pub fewer : (P : Entry → Type 0) → AllByRecursion P b.cache.entries → AllByRecursion P c.cache.entries
+  pub fewer : (c.cache.entries ≡ b.cache.entries) ⊎ (c.cache.entries ≡ without_page (a / 1024) b.cache.entries)

@@ -1,10 +1,15 @@
 //! What is kept beside the state: pins, marks on what they rest on, held translations.
 
-ghost use Rattle.std.specs.Prelude.{◌≡◌, ◌<◌, ℕ, List, true, IfOk, IfSome, Some, length, slice_get, slice_set};
+ghost use Rattle.std.specs.Prelude.{◌≡◌, ◌<◌, ℕ, List, None, true, IfOk, IfNone, IfSome, Some, length, slice_get, slice_set};
 ghost use Rattle.hv_word.specs.Storage.{page_count};
 ghost use Rattle.hv_cpu.specs.Regs.{Regs};
+ghost use Rattle.hv_csr.specs.Interrupts.{pending_of};
+ghost use Rattle.hv_store.specs.Access.{way_for};
+ghost use Rattle.hv_store.specs.declared.access.Way.TheVariants.{Open};
+ghost use Rattle.hv_map.specs.Chain.{running_path};
 ghost use Rattle.hv_nest.specs.Changes.{differences};
 ghost use Rattle.hv_nest.specs.Kinds.{NextBelow};
+ghost use Rattle.hv_nest.specs.Step.{Worked, host_step_of};
 ghost use Rattle.hv_map.specs.Held.{Lists};
 ghost use Rattle.hv_fast.specs.Beside.{IsBlockStill, IsRightBeside, NoPins, SameButMarks, WordIsSpared};
 ghost use Rattle.hv_fast.specs.Marked.{BlocksIn, IsMore, listed};
@@ -12,15 +17,16 @@ ghost use Rattle.hv_fast.specs.Marked.{BlocksIn, IsMore, listed};
 use crate::following::follow;
 use crate::marks::Marks;
 use crate::pin::Pin;
-use crate::riding::Miss;
+use crate::riding::{Miss, ride};
 use crate::translations::hold;
 use hv_block::read_block;
 use hv_cache::MapCache;
 use hv_cpu::{Cpu, reset};
+use hv_csr::pending;
 use hv_limits::PAGES;
-use hv_map::{Chain, Pages};
-use hv_nest::Changed;
-use hv_store::{Store, Way};
+use hv_map::{Chain, Pages, Path};
+use hv_nest::{Changed, Notes, path_of};
+use hv_store::{Access, Slot, Store, Way};
 use hv_vmid::Ids;
 use std::alloc::{AllocError, Global};
 
@@ -162,7 +168,8 @@ impl Beside {
         ensures count { length self.new.pins.items ≡ length self.old.pins.items }
     {
         let pin = &self.pins[hart as usize];
-        if !pin.live || self.inner.next.is_some() || pending(&self.inner).is_some() || pin.block >= store.pages() {
+        let inner = &self.inner;
+        if !pin.live || inner.next.is_some() || pending(inner).is_some() || pin.block >= store.pages() {
             return None;
         }
         let mut notes = Notes::new();
@@ -187,6 +194,20 @@ impl Beside {
             self.fill(store, hart, miss);
         }
         if rode { Some(changed) } else { None }
+    }
+
+    /// The path of the machine that a hart with these registers runs.
+    pub(crate) fn path(&self, store: &Store, cpu: &Cpu, hart: u32) -> Path
+        requires hart { hart < length self.now.pins.items }
+        requires next { NextBelow (page_count store.now) cpu.now }
+        ensures { (R : List Regs) → slice_get R hart ≡ Some cpu.now → IsRightBeside store.now R self.now → result ≡ running_path store.now cpu.now }
+    {
+        let pin = &self.pins[hart as usize];
+        if pin.live {
+            pin.chain.path()
+        } else {
+            path_of(store, cpu)
+        }
     }
 
     // Puts a translation at hand that was missed, where it is held or can be.
@@ -270,4 +291,35 @@ fn is_block_still(store: &Store, page: u32, word: u32) -> bool
     ensures { result ≡ true → IsBlockStill store.now page word }
 {
     !(65..68).contains(&word) && page < store.pages() && read_block(store, page).is_some()
+}
+
+// The bare page that a slot opens for an access.
+fn opened(slot: Slot, access: Access) -> Option<u32>
+    ensures { IfSome result (λ g. way_for slot access ≡ Open g) }
+{
+    let way = match access {
+        Access::Read => slot.read,
+        Access::Write => slot.write,
+        Access::Fetch => slot.fetch,
+    };
+    match way {
+        Way::Open { host } => Some(host),
+        Way::Shut { .. } => None,
+    }
+}
+
+// Marks what a held translation rests on, where it can be marked.
+fn mark_all(marks: &mut Marks, tables: &[u32], blocks: &[u32]) -> bool
+    ensures more { IsMore marks.old marks.new }
+    ensures tables { result ≡ true → Lists (listed marks.new.tables) tables.now }
+    ensures blocks { result ≡ true → Lists (listed marks.new.blocks) blocks.now }
+{
+    if tables.iter().any(|page| *page >= PAGES) || blocks.iter().any(|page| *page >= PAGES) {
+        return false;
+    }
+    marks.mark_tables(tables);
+    for page in blocks {
+        marks.mark_block(*page);
+    }
+    true
 }

@@ -114,7 +114,7 @@ impl Marks {
         ensures { self.new ≡ no_marks }
     {
         erase(&mut self.kinds, &self.tables);
-        erase(&mut self.kinds, &self.tables);
+        erase(&mut self.kinds, &self.blocks);
         self.tables.clear();
         self.blocks.clear();
     }

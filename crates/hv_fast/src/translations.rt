@@ -1,6 +1,6 @@
 //! Held translations: where a page of a machine lies, by the number of its path, with what that rests on.
 
-ghost use Rattle.std.specs.Prelude.{◌≡◌, ◌≢◌, ◌↔◌, ◌<◌, ◌≤◌, ◌+◌, ◌×◌, ℕ, List, [], true, false, IfSome, OnOk, OnErr, Some, length, slice_get};
+ghost use Rattle.std.specs.Prelude.{◌≡◌, ◌≢◌, ◌↔◌, ◌<◌, ◌≤◌, ◌+◌, ℕ, List, [], true, false, IfSome, OnOk, OnErr, Some, length, slice_get};
 ghost use Rattle.hv_limits.specs.Limits.{depth_limit};
 ghost use Rattle.hv_map.specs.Chain.{map_along, pin_of};
 ghost use Rattle.hv_map.specs.Item.{Item};
@@ -12,7 +12,8 @@ use hv_cache::MapCache;
 use hv_map::{Path, Pages, Slot, pin_noting, resolve_noting};
 use hv_store::{Steps, Store};
 use hv_vmid::{IdEnd, Ids};
-use std::sync::ledger::Ledger;
+use std::marker::Brand;
+use std::sync::ledger::{Blank, Ledger};
 
 /// What came of holding a translation: it is held, what it rests on is too wide to be listed, or memory is wanting.
 #[derive(Clone, Copy, Debug, PartialEq, Eq)]
@@ -78,6 +79,42 @@ pub(crate) fn translate<L: Ledger>(
         Err(_) => Kept::Memory,
     };
     Translated { slot, kept }
+}
+
+/// The same where no steps are counted.
+pub(crate) fn hold(
+    ids: &mut Ids,
+    cache: &mut MapCache,
+    store: &Store,
+    path: &Path,
+    page: u32,
+) -> Translated
+    requires path { path.now ≢ [] }
+    requires right { EntriesAreRight store.now ids.old cache.old.entries }
+    requires page { (items : List Item) × (pin_of store.now path.now ≡ Some items) × (page < length (map_along store.now items)) }
+    ensures right { EntriesAreRight store.now ids.new cache.new.entries }
+{
+    hold_by::<Brand>(ids, cache, store, path, page, Blank::new(1))
+}
+
+fn hold_by<L: Ledger>(
+    ids: &mut Ids,
+    cache: &mut MapCache,
+    store: &Store,
+    path: &Path,
+    page: u32,
+    blank: Blank,
+) -> Translated
+    requires name { blank.name ≡ L.name }
+    requires parts { blank.parts ≡ L.parts }
+    requires some { 0 < blank.parts }
+    requires path { path.now ≢ [] }
+    requires right { EntriesAreRight store.now ids.old cache.old.entries }
+    requires page { (items : List Item) × (pin_of store.now path.now ≡ Some items) × (page < length (map_along store.now items)) }
+    ensures right { EntriesAreRight store.now ids.new cache.new.entries }
+{
+    let mut steps = Steps::<L>::new(blank);
+    translate(ids, cache, store, path, page, &mut steps)
 }
 
 // The slot of a page of the machine on a path, if that is held.

@@ -1,7 +1,7 @@
 -- A node that is added under the next key.
 use Rattle.std.proofs.Common.{◌≡◌, ◌≢◌, ℕ, suc, ◌+◌, ◌<◌, cond, List, [], ◌∷◌, ◌++◌, length, Option, Some, None, count_by, is_some, sym, ap, ◌∙◌, subst, arith}
 use Rattle.hv_limits.specs.Limits.{depth_limit}
-use Rattle.hv_vmid.specs.Paths.{ids_limit, IsNumber, path_below, child_path, IsNew, IsNumbered}
+use Rattle.hv_vmid.specs.Paths.{ids_limit, IsNumber, parent_path, child_path, IsNew, IsNumbered}
 use Rattle.hv_vmid.specs.Nodes.{same_node, node_at, paths_of, IsKept}
 use Rattle.hv_vmid.specs.declared.ids.Node.{Node}
 use Rattle.hv_vmid.proofs.Numbering.{added-kept, added-paths, kept-length, kept-numbered, new-none}
@@ -28,7 +28,7 @@ pub adds :
     → ((q : Node) → more q ≡ cond (same_node node q) (Some (count_by is_some S)) (look q))
     → length paths < ids_limit
     → IsNumber (length paths) node.parent
-    → length (path_below paths node.parent) < depth_limit
+    → length (parent_path paths node.parent) < depth_limit
     → IsNew paths (child_path paths node.parent node.syllable)
     → Adds T m more paths node
 adds S R T m key look more node paths K view same is at others count found room earlier depth new =
@@ -44,7 +44,7 @@ adds S R T m key look more node paths K view same is at others count found room 
     added-kept S T n look more node K here there found none
     (omega (arith, long, room))
     (subst (λ (k : ℕ). IsNumber k node.parent) (sym long) earlier)
-    (subst (λ (P : List (List ℕ)). length (path_below P node.parent) < depth_limit) (sym view) depth) in
+    (subst (λ (P : List (List ℕ)). length (parent_path P node.parent) < depth_limit) (sym view) depth) in
     record {
       kept = subst (λ (k : ℕ). IsKept T k more) (sym next) kept;
       paths_are =

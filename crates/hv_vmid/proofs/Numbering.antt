@@ -6,7 +6,7 @@ use Rattle.std.proofs.lemmas.Option.{slice_get_within, slice_get-get_or, get_or_
 use Rattle.std.proofs.Math.Seq.{get_or-append_seam}
 use Rattle.std.specs.Option.{option_eq}
 use Rattle.hv_limits.specs.Limits.{depth_limit}
-use Rattle.hv_vmid.specs.Paths.{ids_limit, IsNumber, path_at, path_below, child_path, IsNew, IsNumbered}
+use Rattle.hv_vmid.specs.Paths.{ids_limit, IsNumber, path_at, parent_path, child_path, IsNew, IsNumbered}
 use Rattle.hv_vmid.specs.Nodes.{same_node, node_at, with_node, paths_of, IsPlaced, IsKept}
 use Rattle.hv_vmid.specs.declared.ids.Node.{Node}
 
@@ -60,7 +60,7 @@ number-more m n None h le = tt
 number-more m n (Some k) h le = omega (arith, h, le)
 
 -- a path keeps its number where more are given
-pub below-grows : (xs ys : List (List ℕ)) (parent : Option ℕ) → IsNumber (length xs) parent → path_below (xs ++ ys) parent ≡ path_below xs parent
+pub below-grows : (xs ys : List (List ℕ)) (parent : Option ℕ) → IsNumber (length xs) parent → parent_path (xs ++ ys) parent ≡ parent_path xs parent
 below-grows xs ys None h = refl
 below-grows xs ys (Some k) h = get_or_append_left xs ys [] k h
 
@@ -158,9 +158,9 @@ module _ (S : List (Option Node)) (n : ℕ) (look : Node → Option ℕ) (K : Is
   path-long : (k : ℕ) → k < n → 0 < length (path_at (paths_of S n) k)
   path-long k l =
       let p = K.placed k l in
-      omega (arith, ap length (kept-path k p.node l p.is), length_push (path_below (paths_of S n) p.node.parent) p.node.syllable)
+      omega (arith, ap length (kept-path k p.node l p.is), length_push (parent_path (paths_of S n) p.node.parent) p.node.syllable)
 
-  below-same : (p q : Option ℕ) → IsNumber n p → IsNumber n q → path_below (paths_of S n) p ≡ path_below (paths_of S n) q → p ≡ q
+  below-same : (p q : Option ℕ) → IsNumber n p → IsNumber n q → parent_path (paths_of S n) p ≡ parent_path (paths_of S n) q → p ≡ q
   below-same None None h g e = refl
   below-same None (Some k) h g e = absurd (omega (arith, path-long k g, ap length e))
   below-same (Some j) None h g e = absurd (omega (arith, path-long j h, ap length e))
@@ -172,9 +172,9 @@ module _ (S : List (Option Node)) (n : ℕ) (look : Node → Option ℕ) (K : Is
       let P = paths_of S n in
       let l : k < n = omega (arith, slice_get_within P k (child_path P node.parent node.syllable) at, kept-length) in
       let p = K.placed k l in
-      let same : path_below P p.node.parent ++ p.node.syllable ∷ [] ≡ path_below P node.parent ++ node.syllable ∷ [] =
+      let same : parent_path P p.node.parent ++ p.node.syllable ∷ [] ≡ parent_path P node.parent ++ node.syllable ∷ [] =
       sym (kept-path k p.node l p.is) ∙ get_or_from_slice_get P k (child_path P node.parent node.syllable) [] at in
-      let parts = snoc-inj (path_below P p.node.parent) (path_below P node.parent) p.node.syllable node.syllable same in
+      let parts = snoc-inj (parent_path P p.node.parent) (parent_path P node.parent) p.node.syllable node.syllable same in
       let parents = below-same p.node.parent node.parent (number-more k n p.node.parent p.earlier (omega (arith, l))) h parts.0 in
       let nodes = node-parts p.node node parents parts.1 in
       let found : look node ≡ Some k = K.listed k node (p.is ∙ ap Some nodes) in
@@ -258,7 +258,7 @@ module _ (S T : List (Option Node)) (n : ℕ) (look more : Node → Option ℕ) 
         number-at : k ≡ n → IsNumber k node.parent
         number-at e = number-more n k node.parent earlier (omega (arith, e))
 
-    pub added-kept : n < ids_limit → IsNumber n node.parent → length (path_below (paths_of S n) node.parent) < depth_limit → IsKept T (suc n) more
+    pub added-kept : n < ids_limit → IsNumber n node.parent → length (parent_path (paths_of S n) node.parent) < depth_limit → IsKept T (suc n) more
     added-kept room earlier depth =
         let P = paths_of S n in
         let path = child_path P node.parent node.syllable in
@@ -282,7 +282,7 @@ module _ (S T : List (Option Node)) (n : ℕ) (look more : Node → Option ℕ) 
           once = λ i j a b e. once-by apart old i j a b e;
           shallow = λ k l.
               elim (cases_eq k n) [
-                | inl e ↦ omega (arith, ap length (ap (path_at (paths_of T (suc n))) e ∙ last), length_push (path_below P node.parent) node.syllable, depth)
+                | inl e ↦ omega (arith, ap length (ap (path_at (paths_of T (suc n))) e ∙ last), length_push (parent_path P node.parent) node.syllable, depth)
                 | inr d ↦ omega (arith, ap length (old k (omega (arith, l, d))), K.shallow k (omega (arith, l, d)))
               ];
         }

@@ -3,7 +3,7 @@ use Rattle.std.proofs.Common.{◌≡◌, ◌≢◌, ℕ, zero, suc, ◌+◌, ◌
 use Rattle.std.proofs.lemmas.Bool.{cases_eq}
 use Rattle.std.proofs.lemmas.List.{length_push, take-append-le, take_all, take_more}
 use Rattle.std.proofs.lemmas.Option.{slice_get_within, slice_get-get_or}
-use Rattle.hv_vmid.specs.Paths.{IsNumber, path_at, path_below, child_path, IsNew, IsNumbered}
+use Rattle.hv_vmid.specs.Paths.{IsNumber, path_at, parent_path, child_path, IsNew, IsNumbered}
 
 module _ (paths : List (List ℕ)) (N : IsNumbered paths) where
   -- the path at a number has a number for its first i syllables
@@ -52,4 +52,4 @@ module _ (paths : List (List ℕ)) (N : IsNumbered paths) where
   pub new-empty : (path : List ℕ) → path ≡ [] → IsNew paths path
   new-empty path e k at =
       let child = N.child k path at in
-      omega (arith, ap length (sym e ∙ child.is), length_push (path_below paths child.parent) child.syllable)
+      omega (arith, ap length (sym e ∙ child.is), length_push (parent_path paths child.parent) child.syllable)

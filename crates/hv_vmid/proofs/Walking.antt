@@ -2,7 +2,7 @@
 use Rattle.std.proofs.Common.{◌≡◌, ℕ, ◌<◌, List, length, Option, Some, IsSome, slice_get, refl, sym, ap, ◌∙◌, subst, arith}
 use Rattle.std.proofs.lemmas.List.{length_push}
 use Rattle.hv_limits.specs.Limits.{depth_limit}
-use Rattle.hv_vmid.specs.Paths.{IsNumber, path_below, child_path}
+use Rattle.hv_vmid.specs.Paths.{IsNumber, parent_path, child_path}
 use Rattle.hv_vmid.specs.Nodes.{node_at, paths_of, IsKept}
 use Rattle.hv_vmid.specs.declared.ids.Node.{Node}
 use Rattle.hv_vmid.proofs.Numbering.{kept-earlier, kept-get, kept-length, kept-path}
@@ -10,7 +10,7 @@ use Rattle.hv_vmid.proofs.Numbering.{kept-earlier, kept-get, kept-length, kept-p
 -- what is known of the node under a number
 pub record Stands (paths : List (List ℕ)) (id : ℕ) (node : Node) : Type 0 where
   pub earlier : IsNumber id node.parent
-  pub short : length (path_below paths node.parent) < depth_limit
+  pub short : length (parent_path paths node.parent) < depth_limit
   pub is : slice_get paths id ≡ Some (child_path paths node.parent node.syllable)
 
 module _ (S : List (Option Node)) (n : ℕ) (look : Node → Option ℕ) (K : IsKept S n look) (paths : List (List ℕ)) (view : paths_of S n ≡ paths) (id : ℕ) (given : id < length paths) where
@@ -29,6 +29,6 @@ module _ (S : List (Option Node)) (n : ℕ) (look : Node → Option ℕ) (K : Is
       subst (λ (Q : List (List ℕ)). Stands Q id node) view
       (record {
         earlier = kept-earlier S n look K id node below is;
-        short = omega (arith, K.shallow id below, ap length path, length_push (path_below P node.parent) node.syllable);
+        short = omega (arith, K.shallow id below, ap length path, length_push (parent_path P node.parent) node.syllable);
         is = kept-get S n look K id below ∙ ap Some path;
       })

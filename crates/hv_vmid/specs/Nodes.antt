@@ -1,5 +1,6 @@
 -- How the paths that have numbers are kept: each by its parent's number and its last syllable.
-use Rattle.std.specs.Prelude.{◌≡◌, ℕ, zero, suc, ◌<◌, ◌≤◌, Bool, List, [], ◌∷◌, ◌++◌, length, Option, Some, None, slice_index_or}
+use Rattle.std.specs.Prelude.{◌≡◌, ℕ, zero, suc, ◌<◌, ◌≤◌, Bool, List, [], ◌∷◌, ◌++◌, length, Option, Some, None}
+use Rattle.std.specs.Prelude.{slice_index_or}
 use Rattle.hv_limits.specs.Limits.{depth_limit}
 use Rattle.hv_vmid.specs.Paths.{ids_limit, IsNumber, path_at, child_path}
 use Rattle.hv_vmid.specs.declared.ids.Node.{Node}

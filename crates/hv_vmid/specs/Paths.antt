@@ -1,5 +1,6 @@
 -- Paths that have numbers: a list, in which each path stands at its number.
-use Rattle.std.specs.Prelude.{◌≡◌, ◌≢◌, ℕ, ◌<◌, ◌≤◌, List, [], ◌∷◌, ◌++◌, length, Option, Some, None, slice_get, slice_index_or}
+use Rattle.std.specs.Prelude.{◌≡◌, ◌≢◌, ℕ, ◌<◌, ◌≤◌, List, [], ◌∷◌, ◌++◌, length, Option, Some, None}
+use Rattle.std.specs.Prelude.{slice_get, slice_index_or}
 use Rattle.hv_limits.specs.Limits.{depth_limit}
 
 -- how many paths can have numbers
@@ -15,14 +16,14 @@ IsNumber n (Some k) = k < n
 abbrev pub path_at : List (List ℕ) → ℕ → List ℕ
 path_at paths k = slice_index_or paths k []
 
--- the path at a number; the bare machine's where there is none
-abbrev pub path_below : List (List ℕ) → Option ℕ → List ℕ
-path_below paths None = []
-path_below paths (Some k) = path_at paths k
+-- the path of a parent: that at its number, or the bare machine's where it has none
+abbrev pub parent_path : List (List ℕ) → Option ℕ → List ℕ
+parent_path paths None = []
+parent_path paths (Some k) = path_at paths k
 
 -- the path of a child: its parent's, and the child's syllable
 abbrev pub child_path : List (List ℕ) → Option ℕ → ℕ → List ℕ
-child_path paths parent syllable = path_below paths parent ++ syllable ∷ []
+child_path paths parent syllable = parent_path paths parent ++ syllable ∷ []
 
 -- the path has no number
 abbrev pub IsNew : List (List ℕ) → List ℕ → Type 0

@@ -2,7 +2,7 @@
 
 ghost use Rattle.std.specs.Prelude.{ℕ, ◌≡◌, ◌↔◌, ◌<◌, [], ◌∷◌, ◌++◌, length, slice_get, Ok, Err, Some, IsOk, IfOk, OnOk, IfErr, OnErr, MatchOption};
 ghost use Rattle.hv_limits.specs.Limits.{depth_limit};
-ghost use Rattle.hv_vmid.specs.Paths.{ids_limit, IsNumber, path_below, child_path, IsNew, IsNumbered};
+ghost use Rattle.hv_vmid.specs.Paths.{ids_limit, IsNumber, parent_path, child_path, IsNew, IsNumbered};
 ghost use Rattle.hv_vmid.specs.declared.ids.IdEnd.TheVariants.{Full, Memory};
 
 use hv_map::Path;
@@ -23,15 +23,15 @@ pub enum IdEnd {
     Memory,
 }
 
-// A machine: the number of its parent's path, none where that is the bare machine, and the last syllable of its own path.
+// A machine: the number of its parent's path, none where that is the bare machine, and the last syllable of its own.
 #[derive(Clone, Copy, PartialEq, Eq, Hash)]
 struct Node {
     parent: Option<u32>,
     syllable: u32,
 }
 
-/// The paths that have numbers, each at its number: 0, 1, 2 and so on, as they were given. The path of a parent, unless it
-/// is the bare machine's, has a smaller number.
+/// The paths that have numbers, each at its number: 0, 1, 2 and so on, as they were given. The path of a parent, unless
+/// it is the bare machine's, has a smaller number.
 #[derive(Drop)]
 pub struct Ids {
     nodes: Slab<Node>,
@@ -67,11 +67,11 @@ impl Ids {
         }
     }
 
-    /// The number of a child's path, which is given here where it has none: the path of `parent`, none for the bare machine,
-    /// and the child's syllable.
+    /// The number of a child's path, which is given here where it has none. The path is the one of the number `parent`,
+    /// none for the bare machine, and the child's syllable.
     pub fn child_id(&mut self, parent: Option<u32>, syllable: u32) -> Result<u32, IdEnd>
         requires parent { IsNumber (length self.old) parent }
-        requires depth { length (path_below self.old parent) < depth_limit }
+        requires depth { length (parent_path self.old parent) < depth_limit }
 
         // A path that has a number keeps it, and a new one gets the next.
         ensures known { let path = child_path self.old parent syllable in
@@ -119,7 +119,7 @@ impl Ids {
     // Gives a path the next number.
     fn add(&mut self, node: Node) -> Result<u32, IdEnd>
         requires parent { IsNumber (length self.old) node.parent }
-        requires depth { length (path_below self.old node.parent) < depth_limit }
+        requires depth { length (parent_path self.old node.parent) < depth_limit }
         requires room { length self.old < ids_limit }
         requires path { IsNew self.old (child_path self.old node.parent node.syllable) }
         ensures number { IfOk result (λ k. k ≡ length self.old) }

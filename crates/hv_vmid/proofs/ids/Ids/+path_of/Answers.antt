@@ -1,7 +1,7 @@
 -- The parent's path, and the node's syllable behind it.
 use Rattle.std.proofs.Common.{◌≡◌, ◌∙◌, ℕ, List, [], ◌∷◌, ◌++◌, length, Some, sym, ap, subst, arith}
 use Rattle.std.proofs.lemmas.Option.{get_or_from_slice_get}
-use Rattle.hv_vmid.specs.Paths.{IsNumber, path_below}
+use Rattle.hv_vmid.specs.Paths.{IsNumber, parent_path}
 use Rattle.hv_vmid.proofs.Walking.{has-node, stands}
 use Rattle.hv_vmid.proofs.ids.Ids.+path_of.Goals as goal
 use Rattle.hv_vmid.proofs.ids.Ids.+path_of.Goals.{in-Some, in-None}
@@ -16,12 +16,12 @@ path_of-path-requires t c =
     (omega (arith, less, c.decreases), omega (arith, less, c.requires))
 
 -- the path that was walked so far is the parent's
-above : (t : ℕ) (c : goal.After-path-1 t) → path_below c.args.self.now c.index-node.result.now.parent ≡ c.match-node.path
+above : (t : ℕ) (c : goal.After-path-1 t) → parent_path c.args.self.now c.index-node.result.now.parent ≡ c.match-node.path
 above t c =
     let paths = c.args.self.now in
     elim c.match-node.branch [
-      | in-Some w ↦ ap (path_below paths) w.in-Some.is ∙ get_or_from_slice_get paths _ _ _ w.path_of-path.ensures ∙ sym w.path-is
-      | in-None w ↦ ap (path_below paths) w.in-None.is ∙ sym w.new-path.ensures ∙ sym w.path-is
+      | in-Some w ↦ ap (parent_path paths) w.in-Some.is ∙ get_or_from_slice_get paths _ _ _ w.path_of-path.ensures ∙ sym w.path-is
+      | in-None w ↦ ap (parent_path paths) w.in-None.is ∙ sym w.new-path.ensures ∙ sym w.path-is
     ]
 
 pub push-requires : goal.push-requires

@@ -3,7 +3,7 @@ use Rattle.std.proofs.Common.{◌≡◌, ◌∙◌, ℕ, ◌<◌, ◌≤◌, Lis
 use Rattle.std.proofs.lemmas.Bool.{eqb-true}
 use Rattle.std.proofs.lemmas.List.{take_all, take_more}
 use Rattle.std.proofs.lemmas.Option.{get_or_from_slice_get, slice_get-get_or, slice_get_within}
-use Rattle.hv_vmid.specs.Paths.{IsNumber, IsNew, IsNumbered, path_below, child_path}
+use Rattle.hv_vmid.specs.Paths.{IsNumber, IsNew, IsNumbered, parent_path, child_path}
 use Rattle.hv_vmid.proofs.Numbering.{kept-length, kept-numbered}
 use Rattle.hv_vmid.proofs.Prefixes.{new-below, new-empty}
 use Rattle.hv_vmid.proofs.ids.Ids.find.Goals as goal
@@ -19,7 +19,7 @@ returns-then-is_empty c = λ k at.
     )
 
 -- a child on the way that has no number
-stops : (paths : List (List ℕ)) (xs path : List ℕ) (i : ℕ) (id : Option ℕ) → IsNumbered paths → xs ≡ path → i < length xs → path_below paths id ≡ take i xs → IsNew paths (child_path paths id (get_or xs i 0)) → IsNew paths path
+stops : (paths : List (List ℕ)) (xs path : List ℕ) (i : ℕ) (id : Option ℕ) → IsNumbered paths → xs ≡ path → i < length xs → parent_path paths id ≡ take i xs → IsNew paths (child_path paths id (get_or xs i 0)) → IsNew paths path
 stops paths xs path i id N same l so_far new =
     subst (IsNew paths) same
     (new-below paths N xs i l (subst (λ (p : List ℕ). IsNew paths (p ++ get_or xs i 0 ∷ [])) so_far new))
@@ -47,7 +47,7 @@ loop-syllable-preserved c =
     }
 
 -- at the end the path so far is the whole path
-ends : (paths : List (List ℕ)) (xs path : List ℕ) (i : ℕ) (id : Option ℕ) → IsNumbered paths → xs ≡ path → length xs ≤ i → IsNumber (length paths) id → path_below paths id ≡ take i xs → MatchOption id (IsNew paths path) (λ k. slice_get paths k ≡ Some path)
+ends : (paths : List (List ℕ)) (xs path : List ℕ) (i : ℕ) (id : Option ℕ) → IsNumbered paths → xs ≡ path → length xs ≤ i → IsNumber (length paths) id → parent_path paths id ≡ take i xs → MatchOption id (IsNew paths path) (λ k. slice_get paths k ≡ Some path)
 ends paths xs path i None N same l given so_far = new-empty paths N path (sym (so_far ∙ take_all i xs l ∙ same))
 ends paths xs path i (Some k) N same l given so_far = slice_get-get_or paths k [] given ∙ ap Some (so_far ∙ take_all i xs l ∙ same)
 

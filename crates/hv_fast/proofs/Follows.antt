@@ -1,5 +1,5 @@
 -- The machines on the path that a hart runs are found one by one.
-use Rattle.std.proofs.Common.{◌≡◌, ◌≢◌, ℕ, zero, suc, ◌+◌, ◌<◌, ◌≤◌, Bool, true, false, List, [], ◌∷◌, ◌++◌, length, Option, Some, None, refl, ap, ◌∙◌, sym, subst, arith, slice_get, length-append}
+use Rattle.std.proofs.Common.{◌≡◌, ◌≢◌, ℕ, ◌+◌, ◌<◌, ◌≤◌, true, false, List, [], ◌∷◌, ◌++◌, length, Option, Some, None, is_some, refl, ap, ◌∙◌, sym, subst, arith, length-append}
 use Rattle.hv_limits.specs.Limits.{depth_limit}
 use Rattle.hv_word.specs.Storage.{page_count}
 use Rattle.hv_cpu.specs.Regs.{Regs}
@@ -9,14 +9,15 @@ use Rattle.hv_block.specs.Block.{regs_at}
 use Rattle.hv_map.specs.Chain.{map_along}
 use Rattle.hv_map.specs.declared.found.Found.TheVariants.{Child}
 use Rattle.hv_map.specs.Found.{found_on, item_of}
-use Rattle.hv_map.specs.Held.{Lists, IsPlaced, Placed, Nexts, IsPin}
+use Rattle.hv_map.specs.Held.{IsPlaced, Placed, Nexts, IsPin}
 use Rattle.hv_map.specs.Item.{Item}
 use Rattle.hv_map.specs.Gathered.{Listed, Gathered, bare_gathered_map, gathered_map, gathered_along, gathered_from, pages_read, with_pages}
 use Rattle.hv_map.proofs.Adding.{lists_keep, lists_all, room_before}
 use Rattle.hv_map.proofs.Holding.{child_is_placed}
 use Rattle.hv_map.proofs.Pins.{child_there}
 use Rattle.hv_map.proofs.GatheredMaps.{slots-along}
-use Rattle.hv_nest.proofs.Follows.{child_regs}
+use Rattle.hv_nest.proofs.Follows.{child_regs, length-map_new}
+use Rattle.hv_nest.proofs.Rows.{chain_next}
 use Rattle.hv_fast.specs.Following.{Leads}
 use Rattle.hv_fast.specs.Rides.{Quiet}
 
@@ -54,63 +55,81 @@ quiet_snoc S r q (y ∷ ys) x h quiet none =
 
 -- What holds of the machines that were found so far, from the registers r on to the registers q of the last.
 pub record SoFar (S : List ℕ) (r q : Regs) (xs : List Item) (p : Listed) : Type 0 where
+  pub short : length xs ≤ depth_limit
   pub placed : p.full ≡ false → Placed S (bare_gathered_map (page_count S)) p 0 xs
   pub leads : Leads S r xs q
   pub quiet : Quiet S r xs
   pub next : q.next ≢ 0 → q.next < length (map_along S xs)
 
-pub so_far_none : (S : List ℕ) (r : Regs) (p : Listed) (xs : List Item) → xs ≡ [] → (r.next ≢ 0 → r.next < length (map_along S [])) → SoFar S r r xs p
-so_far_none S r p [] e next = record { placed = λ _. tt; leads = refl; quiet = tt; next = next }
+pub so_far_none : (S : List ℕ) (r : Regs) (p : Listed) (xs : List Item) → xs ≡ [] → (r.next ≢ 0 → r.next < page_count S) → SoFar S r r xs p
+so_far_none S r p [] e next = record {
+  short = omega arith;
+  placed = λ _. tt;
+  leads = refl;
+  quiet = tt;
+  next = λ some. subst (λ (n : ℕ). r.next < n) (sym (length-map_new S)) (next some);
+}
 so_far_none S r p (x ∷ xs) e next = absurd (let f : x ∷ xs ≡ [] = e in cc)
 
 pub so_far_more : (S : List ℕ) (r q : Regs) (xs ys : List Item) (p o : Listed) (s g : ℕ) (b : Block)
     → SoFar S r q xs p
-    → q.next ≡ s
+    → length xs < depth_limit
+    → s ≡ q.next
     → s ≢ 0
     → pending_of q ≡ None
     → Some (Child g b) ≡ found_on S (map_along S xs) s
     → o ≡ with_pages p (pages_read (gathered_along S xs) s)
     → ys ≡ xs ++ item_of s g b ∷ []
-    → (b.cpu.next ≢ 0 → b.cpu.next < length (map_along S ys))
+    → b.cpu.next < b.pages
     → SoFar S r b.cpu ys o
-so_far_more S r q xs ys p o s g b far is some none found listed longer next =
-    let x = item_of s g b in
-    let regs : regs_at S g ≡ b.cpu = child_regs S (map_along S xs) s g b found in
-    let gs = pages_read (gathered_along S xs) s in
-    record {
-      placed = λ room.
-          let here : (with_pages p gs).full ≡ false = ap (λ (l : Listed). l.full) (sym listed) ∙ room in
-          subst (λ (l : Listed). Placed S (bare_gathered_map (page_count S)) l 0 ys) (sym listed) (
-            subst (Placed S (bare_gathered_map (page_count S)) (with_pages p gs) 0) (sym longer) (
-              placed_snoc S (bare_gathered_map (page_count S)) (with_pages p gs) 0 xs x
-                  (placed_keeps S (bare_gathered_map (page_count S)) p gs 0 xs (far.placed (room_before p gs here)))
-                  (placed_new gs here),
-            ),
-          );
-      leads = subst (λ (k : Regs). Leads S r ys k) regs (
-        subst (λ (zs : List Item). Leads S r zs (regs_at S g)) (sym longer) (leads_snoc S r q xs x far.leads is (positive s some)),
-      );
-      quiet = subst (Quiet S r) (sym longer) (quiet_snoc S r q xs x far.leads far.quiet none);
-      next = next;
-    }
+unfolding gathered_along
+so_far_more S r q xs ys p o s g b far room is some none found listed longer next = record {
+  short =
+      let more : length ys ≡ length xs + 1 = ap length longer ∙ length-append xs (item_of s g b ∷ []) in
+      omega arith;
+  placed = λ space.
+      subst (λ (zs : List Item). Placed S (bare_gathered_map (page_count S)) o 0 zs) (sym longer)
+      (subst (λ (l : Listed). Placed S (bare_gathered_map (page_count S)) l 0 (xs ++ x ∷ [])) (sym listed)
+      (placed_more (ap (λ (l : Listed). l.full) (sym listed) ∙ space)));
+  leads =
+      subst (λ (zs : List Item). Leads S r zs b.cpu) (sym longer)
+      (subst (λ (k : Regs). Leads S r (xs ++ x ∷ []) k) regs (leads_snoc S r q xs x far.leads (sym is) (positive s some)));
+  quiet = subst (Quiet S r) (sym longer) (quiet_snoc S r q xs x far.leads far.quiet none);
+  next = chain_next S xs ys s g b next longer;
+}
   where
+    x : Item
+    x = item_of s g b
+
+    regs : regs_at S g ≡ b.cpu
+    regs = child_regs S (map_along S xs) s g b found
+
+    full : Listed
+    full = with_pages p (pages_read (gathered_along S xs) s)
+
     positive : (k : ℕ) → k ≢ 0 → 0 < k
-    positive zero h = absurd (h refl)
-    positive (suc k) h = omega arith
+    positive k h = omega arith
 
-    placed_new : (gs : List ℕ) → (with_pages p (pages_read (gathered_along S xs) s)).full ≡ false → IsPlaced S (gathered_from S (bare_gathered_map (page_count S)) 0 xs) (with_pages p (pages_read (gathered_along S xs) s)) (item_of s g b)
-    unfolding gathered_along
-    placed_new gs room =
-        child_is_placed S (gathered_along S xs) (map_along S xs) (with_pages p (pages_read (gathered_along S xs) s)) s (item_of s g b)
-            (slots-along S xs)
-            (child_there S (map_along S xs) s g b found)
-            (lists_all p (pages_read (gathered_along S xs) s) room)
+    new : full.full ≡ false → IsPlaced S (gathered_from S (bare_gathered_map (page_count S)) 0 xs) full x
+    new space =
+        child_is_placed S (gathered_along S xs) (map_along S xs) full s x (slots-along S xs)
+        (child_there S (map_along S xs) s g b found)
+        (lists_all p (pages_read (gathered_along S xs) s) space)
 
-pub so_far_end : (S : List ℕ) (r q : Regs) (xs : List Item) (p : Listed) → SoFar S r q xs p → q.next ≡ 0 → length xs ≤ depth_limit → p.full ≡ false → IsPin S r xs p
-so_far_end S r q xs p far e short room = record {
-  short = short;
+    placed_more : full.full ≡ false → Placed S (bare_gathered_map (page_count S)) full 0 (xs ++ x ∷ [])
+    placed_more space =
+        placed_snoc S (bare_gathered_map (page_count S)) full 0 xs x
+        (placed_keeps S (bare_gathered_map (page_count S)) p (pages_read (gathered_along S xs) s) 0 xs (far.placed (room_before p (pages_read (gathered_along S xs) s) space)))
+        (new space)
+
+pub so_far_end : (S : List ℕ) (r q : Regs) (xs : List Item) (p : Listed) → SoFar S r q xs p → q.next ≡ 0 → p.full ≡ false → IsPin S r xs p
+so_far_end S r q xs p far e room = record {
+  short = far.short;
   placed = far.placed room;
   nexts = leads_end S r q xs far.leads e;
 }
 
-pub ruleset follows = (so_far_none, so_far_more, so_far_end)
+-- a hart for which no interrupt is found has none to take
+pub none_found : (o p : Option ℕ) → o ≡ p → is_some o ≡ false → p ≡ None
+none_found None p e none = sym e
+none_found (Some k) p e none = absurd (let f : true ≡ false = none in cc)

@@ -5,3 +5,4 @@ mod following;
 pub mod laws;
 mod marks;
 mod memo;
+mod riding;

@@ -1,7 +1,8 @@
 -- Entries that are forgotten one by one are the same as those that are left out together.
-use Rattle.std.proofs.Common.{◌≡◌, ◌==◌, Bool, true, false, not, ◌||◌, cond, List, [], ◌∷◌, ◌++◌, append_assoc, inl, inr, refl, sym, ap, ◌∙◌, arith}
+use Rattle.std.proofs.Common.{◌≡◌, ℕ, ◌+◌, ◌<◌, ◌≤◌, ◌==◌, length, drop, get_or, Bool, true, false, not, ◌||◌, cond, List, [], ◌∷◌, ◌++◌, append_assoc, inl, inr, refl, sym, ap, ◌∙◌, arith}
 use Rattle.std.proofs.lemmas.Bool.{cases_Bool, or_parts}
 use Rattle.std.proofs.lemmas.Cmp.{and_equiv, nat_eq_equiv, on_equiv}
+use Rattle.std.proofs.lemmas.List.{drop_all, drop_more}
 use Rattle.std.proofs.lemmas.Map.Keys.{IsDistinct-cons, IsDistinct-head, IsDistinct-tail}
 use Rattle.std.specs.Cmp.{IsEquivalence}
 use Rattle.std.specs.List.{AllByRecursion, IsDistinct, filter, list_any}
@@ -41,16 +42,23 @@ module _ (p : Entry → Bool) where
   forgets k ks [] d h = cc
   forgets k ks (e ∷ es) d h = elim (cases_Bool (p e)) [
     | inl t ↦
-      let f : e.0 ∷ keys_of (filter p es) ≡ k ∷ ks = rw t at h in
-      let g : e.0 ≡ k = cc in
-      let one : same k e.0 ≡ true = rw g (same_equiv.refl k) in
-      record { left = rw (one, t) refl; keys = rw one cc }
+        let f : e.0 ∷ keys_of (filter p es) ≡ k ∷ ks = rw t at h in
+        let g : e.0 ≡ k = cc in
+        let one : same k e.0 ≡ true = rw g (same_equiv.refl k) in
+        record { left = rw (one, t) refl; keys = rw one cc }
     | inr t ↦
-      let f : keys_of (filter p es) ≡ k ∷ ks = rw t at h in
-      let apart : same k e.0 ≡ false = sym (same_equiv.symm e.0 k) ∙ other_key e.0 k ks es (IsDistinct-head same e.0 (keys_of es) d) f in
-      let rest = forgets k ks es (IsDistinct-tail same e.0 (keys_of es) d) f in
-      record { left = rw (apart, t) (ap (λ (fs : List Entry). e ∷ fs) rest.left); keys = rw (apart, t) rest.keys }
+        let f : keys_of (filter p es) ≡ k ∷ ks = rw t at h in
+        let apart : same k e.0 ≡ false = sym (same_equiv.symm e.0 k) ∙ other_key e.0 k ks es (IsDistinct-head same e.0 (keys_of es) d) f in
+        let rest = forgets k ks es (IsDistinct-tail same e.0 (keys_of es) d) f in
+        record { left = rw (apart, t) (ap (λ (fs : List Entry). e ∷ fs) rest.left); keys = rw (apart, t) rest.keys }
   ]
+
+  -- the same, where the keys are those of a list from a place on
+  pub forgets_at : (es : List Entry) (ks : List Key) (i : ℕ) (d : Key) → i < length ks → IsDistinct same (keys_of es) → keys_of (filter p es) ≡ drop i ks → Forgets (get_or ks i d) (drop (i + 1) ks) es
+  forgets_at es ks i d lt apart h = forgets (get_or ks i d) (drop (i + 1) ks) es apart (h ∙ drop_more ks i d lt)
+
+  pub out_at : (es : List Entry) (ks : List Key) (i : ℕ) → length ks ≤ i → keys_of (filter p es) ≡ drop i ks → filter (λ e. not (p e)) es ≡ es
+  out_at es ks i ge h = all_out es (h ∙ drop_all i ks ge)
 
   -- the keys so far and those of what is left, where the next entry passes or doesn't
   pub more_yes : (ks all : List Key) (e : Entry) (es : List Entry) → p e ≡ true → ks ++ keys_of (filter p (e ∷ es)) ≡ all → (ks ++ e.0 ∷ []) ++ keys_of (filter p es) ≡ all
@@ -72,8 +80,8 @@ distinct_removed test [] d = d
 distinct_removed test (e ∷ es) d = elim (cases_Bool (test e.0)) [
   | inl t ↦ rw t (IsDistinct-tail same e.0 (keys_of es) d)
   | inr t ↦
-    rw t
-    (IsDistinct-cons same e.0 (keys_of (remove_entry test es))
-    (all_apart e.0 test es (IsDistinct-head same e.0 (keys_of es) d))
-    (distinct_removed test es (IsDistinct-tail same e.0 (keys_of es) d)))
+      rw t
+      (IsDistinct-cons same e.0 (keys_of (remove_entry test es))
+      (all_apart e.0 test es (IsDistinct-head same e.0 (keys_of es) d))
+      (distinct_removed test es (IsDistinct-tail same e.0 (keys_of es) d)))
 ]

@@ -148,15 +148,15 @@ tally_same test c t h is = record {
 pub has_room : (c : Holding) (t : Tallied) (k : Kept) → IsValid same c → IsTally c t → IsShort k → HasRoom t k
 has_room c t k valid is short = record {
   pages = λ g.
-    let sum = total_bound (pages_named g) 263 c.entries (pages_bound g) is.short in
-    let was = is.pages g in
-    let here = pages_bound g k short in
-    omega (arith, sum, was, here, valid.1, is.few);
+      let sum = total_bound (pages_named g) 263 c.entries (pages_bound g) is.short in
+      let was = is.pages g in
+      let here = pages_bound g k short in
+      omega (arith, sum, was, here, valid.1, is.few);
   tables = λ g.
-    let sum = total_bound (tables_named g) 263 c.entries (tables_bound g) is.short in
-    let was = is.tables g in
-    let here = tables_bound g k short in
-    omega (arith, sum, was, here, valid.1, is.few);
+      let sum = total_bound (tables_named g) 263 c.entries (tables_bound g) is.short in
+      let was = is.tables g in
+      let here = tables_bound g k short in
+      omega (arith, sum, was, here, valid.1, is.few);
 }
 
 short_put : (c : Holding) (key : Key) (k : Kept) → IsValid same c → IsShort k → AllByRecursion Short c.entries → AllByRecursion Short (put_entries same c key k)

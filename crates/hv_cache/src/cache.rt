@@ -1,6 +1,7 @@
 //! The cache of translations.
 
-ghost use Rattle.std.specs.Prelude.{◌≡◌, ◌<◌, ◌≤◌, [], IfOk, OnErr, OnOk, false, is_some};
+ghost use Rattle.std.specs.Prelude.{◌≡◌, ◌<◌, ◌≤◌, [], IfOk, OnErr, OnOk, false, is_some, option_copied};
+ghost use Rattle.std.specs.Borrow.{sem};
 ghost use Rattle.std.specs.List.{AllByRecursion};
 ghost use Rattle.std.specs.Map.{lookup};
 ghost use Rattle.std.specs.Option.{option_map};
@@ -39,6 +40,8 @@ impl Model for MapCache {
 }
 
 impl MapCache {
+    ghost use Rattle.hv_cache.specs.Lending.{CacheEndsAs};
+
     /// A cache that can hold so many entries, 1 to 4096, and holds none.
     pub fn new(alloc: Global, entries: usize) -> Result<MapCache, AllocError>
         requires { (1 ≤ entries) × (entries ≤ entries_limit) }
@@ -57,7 +60,16 @@ impl MapCache {
         ensures found { result ≡ option_map (λ k. k.slot) (lookup (same (id, page)) self.old.entries) }
         ensures entries { self.new ≡ lru_cache (promoted (same (id, page)) self.old.entries) self.old.cap }
     {
-        self.entries.slot((id, page))
+        let kept = self.entries.entry((id, page))?;
+        Some(kept.slot())
+    }
+
+    /// All that is held for a page, as `look` finds it.
+    pub fn entry(&mut self, id: u32, page: u32) -> Option<&Kept>
+        ensures* entries { sem 𝓛 (CacheEndsAs self.entry (promoted (same (id, page)) self.old.entries)) }
+        ensures found { option_copied result ≡ lookup (same (id, page)) self.old.entries }
+    {
+        self.entries.entry((id, page))
     }
 
     /// Whether there is an entry for a page.

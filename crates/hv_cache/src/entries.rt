@@ -3,7 +3,6 @@
 ghost use Rattle.std.specs.Prelude.{◌≡◌, ◌≤◌, [], ◌∷◌, IfOk, OnErr, OnOk, is_some, length, option_copied, vec_capacity};
 ghost use Rattle.std.specs.List.{IsDistinct, filter};
 ghost use Rattle.std.specs.Map.{keys_of, lookup, remove_entry};
-ghost use Rattle.std.specs.Option.{option_map};
 ghost use Rattle.std.specs.Borrow.{sem};
 ghost use Rattle.std.specs.NonZero.{non_zero_usize_get};
 ghost use Rattle.lru.specs.LruCache.{lru_cache, promoted};
@@ -13,7 +12,6 @@ ghost use Rattle.hv_cache.specs.Counting.{IsInside, IsShort};
 
 use crate::kept::Kept;
 use crate::tally::Tally;
-use hv_map::Slot;
 use lru::LruCache;
 use std::alloc::{AllocError, Global};
 use std::marker::Model;
@@ -48,15 +46,6 @@ impl Entries {
         let kept = LruCache::new(alloc, entries)?;
         let tally = Tally::new(alloc)?;
         Ok(Entries { kept, tally })
-    }
-
-    /// The slot under a key, whose entry becomes the most recently used.
-    pub(crate) fn slot(&mut self, key: (u32, u32)) -> Option<Slot>
-        ensures found { result ≡ option_map (λ k. k.slot) (lookup (same key) self.old.entries) }
-        ensures entries { self.new ≡ lru_cache (promoted (same key) self.old.entries) self.old.cap }
-    {
-        let kept = self.kept.get(&key)?;
-        Some(kept.slot())
     }
 
     /// The entry under a key, which becomes the most recently used.
@@ -104,6 +93,7 @@ impl Entries {
         ensures room { vec_capacity keys.old ≤ vec_capacity keys.new }
         ensures distinct { IsDistinct same (keys_of self.now.entries) }
     {
+        // No key is there twice.
         let _held = self.kept.len();
         keys.clear();
         for (key, kept) in &self.kept {

@@ -7,6 +7,8 @@ mod counts;
 mod entries;
 mod kept;
 mod tally;
+#[cfg(test)]
+mod tests;
 
 pub use cache::MapCache;
 pub use kept::Kept;

@@ -18,6 +18,3 @@ pub use moving::Play;
 pub use playing::play;
 pub use record::{Record, WatchRow};
 pub use text::{fault_line, machine_lines, register_lines};
-
-#[cfg(test)]
-mod tests;

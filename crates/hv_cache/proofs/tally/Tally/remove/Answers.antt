@@ -9,11 +9,13 @@ remove-requires c = record { counted = λ g. rw (c.blocks-2.ensures) (let all = 
 
 pub remove-requires-2 : goal.remove-requires-2
 unfolding pages_named
-remove-requires-2 c = record { counted = λ g.
-    rw c.tables.ensures
-    (let all = (rw (← c.self.view_is) at c.requires).pages g in
-    let less = rw c.blocks-2.ensures at (c.remove.ensures.counted g) in
-    omega (arith, all, less)) }
+remove-requires-2 c = record {
+  counted = λ g.
+      rw c.tables.ensures
+      (let all = (rw (← c.self.view_is) at c.requires).pages g in
+      let less = rw c.blocks-2.ensures at (c.remove.ensures.counted g) in
+      omega (arith, all, less));
+}
 
 pub remove-requires-3 : goal.remove-requires-3
 unfolding tables_named

@@ -1,12 +1,13 @@
 -- Translations at hand. For each access there are entries, each of which says in which bare page a page of a machine
 -- lies; a page's entry is the one at its number modulo how many there are.
-use Rattle.std.specs.Prelude.{◌≡◌, ◌≢◌, ℕ, ◌%◌, ◌==◌, if◌then◌else◌, All, List}
+use Rattle.std.specs.Prelude.{◌≡◌, ◌≢◌, ℕ, ◌%◌, ◌==◌, if◌then◌else◌, Bool, false, true, All, List}
 use Rattle.std.specs.Prelude.{Option, None, Some, slice_get, slice_set}
 use Rattle.hv_store.specs.declared.access.Access.{Access}
 use Rattle.hv_store.specs.declared.access.Access.TheVariants.{Fetch, Read, Write}
 use Rattle.hv_store.specs.declared.access.Slot.{Slot}
 use Rattle.hv_store.specs.declared.access.Way.TheVariants.{Open}
 use Rattle.hv_store.specs.Access.{way_for}
+use Rattle.hv_exec.specs.Changes.{leads_to}
 use Rattle.hv_map.specs.Chain.{map_along}
 use Rattle.hv_map.specs.Held.{IsHeld}
 use Rattle.hv_map.specs.Item.{Item}
@@ -74,3 +75,13 @@ IsRightMemo S items gs m =
 abbrev pub Opens : List ℕ → List Item → Entries → Type 0
 Opens S items m =
     (a : Access) → All (λ (e : Entry). e.page ≢ nothing → IsOpenAt S items a e.page e.host) (entries_for m a)
+
+-- The same by tests: whether a page's slot, if there is one, opens bare page g for an access.
+abbrev pub opens_at : Option Slot → Access → ℕ → Bool
+opens_at None a g = false
+opens_at (Some slot) a g = leads_to g (way_for slot a)
+
+abbrev pub AreOpen : List ℕ → List Item → Entries → Type 0
+AreOpen S items m =
+    (a : Access)
+    → All (λ (e : Entry). e.page ≢ nothing → opens_at (slice_get (map_along S items) e.page) a e.host ≡ true) (entries_for m a)

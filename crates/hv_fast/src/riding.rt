@@ -1,11 +1,15 @@
 //! One instruction of the machine at the end of a pinned path, by translations at hand.
 
-ghost use Rattle.std.specs.Prelude.{◌≡◌, ◌<◌, [], true, false, Some, length};
-ghost use Rattle.hv_word.specs.Storage.{page_count};
+ghost use Rattle.std.specs.Prelude.{◌≡◌, ◌≢◌, ◌<◌, ◌≤◌, [], true, false, OnErr, Some, length};
+ghost use Rattle.hv_word.specs.Words.{IsLane, lane_with};
+ghost use Rattle.hv_word.specs.Storage.{page_count, with_word, word_at};
+ghost use Rattle.hv_cpu.specs.Regs.{FitsHart};
 ghost use Rattle.hv_block.specs.Block.{pages_at, regs_at};
+ghost use Rattle.hv_exec.specs.Act.{act_of, acted};
 ghost use Rattle.hv_map.specs.Chain.{map_along};
 ghost use Rattle.hv_nest.specs.Notes.{undone, is_exact};
-ghost use Rattle.hv_fast.specs.Memo.{Opens};
+ghost use Rattle.hv_nest.specs.Noted.{AreNoted, NothingDone};
+ghost use Rattle.hv_fast.specs.Memo.{AreOpen, Opens};
 ghost use Rattle.hv_fast.specs.Rides.{HasRidden, has_noted_mark};
 
 use crate::marks::Marks;
@@ -36,15 +40,7 @@ pub(crate) struct Riding<'a> {
     pub(crate) notes: &'a mut Notes,
     pub(crate) missed: &'a mut Option<Miss>,
     ghost exact: { is_exact store.now notes.now ≡ true },
-    ghost right: { Opens (undone store.now notes.now) chain.now memo.now },
-}
-
-impl Riding<'_> {
-    // Remembers that a page wasn't at hand.
-    #[inline(never)]
-    fn miss(&mut self, page: u32, access: Access) {
-        *self.missed = Some(Miss { page, access });
-    }
+    ghost right: { AreOpen (undone store.now notes.now) chain.now memo.now },
 }
 
 impl Space for Riding<'_> {
@@ -89,24 +85,22 @@ impl Space for Riding<'_> {
     #[inline(always)]
     fn write(&mut self, page: u32, word: u32, lane: Lane, value: u32) -> Result<(), Refusal> {
         let _pages = self.chain.pages(self.store);
-        let host = match self.memo.get(page, Access::Write) {
-            Some(host) => host,
-            None => {
-                *self.missed = Some(Miss { page, access: Access::Write });
-                let Way::Open { host } = page_slot(self.store, self.chain, page).write else {
-                    return View {
-                        store: self.store,
-                        chain: self.chain,
-                    }
-                    .write(page, word, lane, value);
-                };
-                host
+        if let Some(host) = self.memo.get(page, Access::Write) {
+            put_lane(self.store, self.notes, host, word, lane, value);
+            return Ok(());
+        }
+        *self.missed = Some(Miss {
+            page,
+            access: Access::Write,
+        });
+        let Way::Open { host } = page_slot(self.store, self.chain, page).write else {
+            return View {
+                store: self.store,
+                chain: self.chain,
             }
+            .write(page, word, lane, value);
         };
-        let _pages = self.store.pages();
-        let old = block_word(self.store, host, word);
-        self.notes
-            .put(self.store, 1024 * host + word, lane_put(old, lane, value));
+        put_lane(self.store, self.notes, host, word, lane, value);
         Ok(())
     }
 
@@ -121,6 +115,22 @@ impl Space for Riding<'_> {
         put_fault(self.store, self.notes, host, 0, 0, 0);
         Ok(())
     }
+}
+
+// Replaces a lane of word `word` (0 to 1023) of bare page `page`, and notes what changes.
+#[inline(always)]
+fn put_lane(store: &mut Store, notes: &mut Notes, page: u32, word: u32, lane: Lane, value: u32)
+    requires page { page < page_count store.old }
+    requires word { word < 1024 }
+    requires lane { IsLane lane }
+    requires fresh { notes.old ≡ [] }
+    ensures put { store.new ≡ with_word store.old page word (lane_with (word_at store.old page word) lane value) }
+    ensures origin { undone store.new notes.new ≡ undone store.old notes.old }
+    ensures exact { is_exact store.new notes.new ≡ true }
+{
+    let old = block_word(store, page, word);
+    let _pages = store.pages();
+    notes.put(store, 1024 * page + word, lane_put(old, lane, value));
 }
 
 /// Makes one instruction of the last machine of a chain, whose registers `cpu` are those in its block in bare page `block`, and
@@ -143,6 +153,7 @@ pub(crate) fn ride(
     requires cpu { regs_at store.old block ≡ cpu.old }
     requires next { cpu.old.next ≡ 0 }
     requires pages { length (map_along store.old chain.now) ≡ pages_at store.old block }
+    requires some { 0 < pages_at store.old block }
     ensures origin { undone store.new notes.new ≡ store.old }
     ensures len { length store.new ≡ length store.old }
     ensures rode { result ≡ true → HasRidden store.old store.new marks.now cache.now.entries chain.now block cpu.old cpu.new }
@@ -152,14 +163,7 @@ pub(crate) fn ride(
         return false;
     }
     let before = *cpu;
-    let mut riding = Riding {
-        store,
-        chain,
-        memo,
-        notes,
-        missed,
-    };
-    if act(cpu, 0, &mut riding).is_err() {
+    if act_along(store, notes, chain, memo, cpu, missed).is_err() {
         return false;
     }
     if any_marked(marks, cache, notes) {
@@ -167,8 +171,47 @@ pub(crate) fn ride(
         *cpu = before;
         return false;
     }
+    fits(cpu);
     put_cpu(store, notes, block, cpu);
     true
+}
+
+// One instruction of the last machine of a chain, by translations at hand. Where it is refused nothing changed.
+#[inline(always)]
+#[tactic(auto, using(hv_nest::proofs::Counts::counts))]
+fn act_along(
+    store: &mut Store,
+    notes: &mut Notes,
+    chain: &Chain,
+    memo: &Memo,
+    cpu: &mut Cpu,
+    missed: &mut Option<Miss>,
+) -> Result<(), Refusal>
+    requires fresh { notes.old ≡ [] }
+    requires memo { Opens store.old chain.now memo.now }
+    requires next { cpu.old.next ≡ 0 }
+    ensures acts { acted result store.new cpu.new ≡ act_of store.old (map_along store.old chain.now) 0 cpu.old }
+    ensures next { cpu.new.next ≢ 0 → cpu.new.next < length (map_along store.old chain.now) }
+    ensures err { OnErr result (NothingDone store.old store.new cpu.old cpu.new notes.new) }
+    ensures noted { AreNoted store.old store.new cpu.old cpu.new notes.new }
+    ensures exact { is_exact store.new notes.new ≡ true }
+{
+    let mut riding = Riding {
+        store,
+        chain,
+        memo,
+        notes,
+        missed,
+    };
+    act(cpu, 0, &mut riding)
+}
+
+// The registers are such as a hart can have.
+#[inline(always)]
+fn fits(cpu: &Cpu)
+    ensures { FitsHart cpu.now }
+{
+    let _ = &cpu.pc;
 }
 
 // Whether something rests on a page with a noted word.
@@ -176,8 +219,6 @@ pub(crate) fn ride(
 fn any_marked(marks: &Marks, cache: &MapCache, notes: &Notes) -> bool
     ensures { result ≡ has_noted_mark marks.now cache.now.entries notes.now }
 {
-    notes
-        .as_slice()
-        .iter()
-        .any(|note| marks.has_mark(note.at / 1024) || cache.watched(note.at / 1024))
+    notes.as_slice().iter().any(|note| marks.has_mark(note.at / 1024)
+        || cache.watched(note.at / 1024))
 }

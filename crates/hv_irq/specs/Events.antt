@@ -1,6 +1,7 @@
 -- Events of a schedule, and what a recording of them keeps.
-use Rattle.std.specs.Prelude.{◌≡◌, ℕ, Bool, not, ◌==◌, ◌+◌, ◌<◌, ◌≤◌, nat_lt, nat_le, bit_and, if◌then◌else◌}
-use Rattle.std.specs.Prelude.{List, length, sum_by, All, Option, None, Some}
+use Rattle.std.specs.Prelude.{◌≡◌, ℕ, Bool, not, ◌==◌, ◌+◌, ◌-◌, ◌<◌, ◌≤◌, nat_lt, nat_le, bit_and, if◌then◌else◌}
+use Rattle.std.specs.Prelude.{List, [], ◌∷◌, ◌++◌, length, sum_by, All, Option, None, Some}
+use Rattle.std.specs.Option.{option_or}
 use Rattle.hv_limits.specs.Limits.{harts_limit, lines_mask, steps_limit, events_limit}
 use Rattle.hv_irq.specs.declared.Event.{Event}
 use Rattle.hv_irq.specs.declared.Event.TheVariants.{Turn, Lines}
@@ -45,3 +46,17 @@ pub record IsSchedule (events : List Event) : Type 0 where
   pub masks : All (λ event. bit_and (mask_of event) lines_mask ≡ mask_of event) events
   pub steps : total_of events ≤ steps_limit
   pub many : length events ≤ events_limit
+
+-- why events can't follow these one after another: the refusal of the first that is refused
+unfoldable pub first_refusal_of : List Event → List Event → Option PushEnd
+first_refusal_of before [] = None
+first_refusal_of before (event ∷ events) =
+    option_or (refusal_of before event) (first_refusal_of (before ++ event ∷ []) events)
+
+-- a turn of a hart of so many steps; none where there are no steps
+abbrev pub turn_of : ℕ → ℕ → List Event
+turn_of hart count = if count == 0 then [] else Turn hart count ∷ []
+
+-- a hart's steps, `total` together, with its lines set to a mask after `at` of them
+abbrev pub raised_at : ℕ → ℕ → ℕ → ℕ → List Event
+raised_at total at hart mask = turn_of hart at ++ Lines hart mask ∷ turn_of hart (total - at)

@@ -1,7 +1,9 @@
 //! Recorded schedules: the turns of the harts and the changes of their interrupt lines, in order.
 #![tactic(auto)]
 
-ghost use Rattle.std.specs.Prelude.{◌≡◌, ◌≤◌, [], ◌∷◌, ◌++◌, OnOk, OnErr, MatchOption, IsOkUnless};
+ghost use Rattle.std.specs.Prelude.{◌≡◌, ◌≢◌, ◌≤◌, [], ◌∷◌, ◌++◌, None, Some};
+ghost use Rattle.std.specs.Prelude.{IfOk, IfErr, OnOk, OnErr, MatchOption, IsOkUnless};
+ghost use Rattle.hv_irq.specs.Events.{first_refusal_of, raised_at};
 
 use hv_limits::{EVENTS, HARTS, LINES, STEPS};
 use std::alloc::{AllocFailed, Global};
@@ -92,7 +94,7 @@ impl Model for Recording {
 }
 
 impl Recording {
-    ghost use Rattle.hv_irq.specs.Events.{total_of, refusal_of, IsSchedule};
+    ghost use Rattle.hv_irq.specs.Events.{total_of, refusal_of, turn_of, IsSchedule};
     ghost use Rattle.hv_limits.specs.Limits.{steps_limit};
 
     /// A recording of no events.
@@ -131,6 +133,18 @@ impl Recording {
         Ok(())
     }
 
+    // Appends a turn of a hart, or nothing where it has no steps. It is refused as by `push`.
+    fn push_turn(&mut self, hart: u32, count: u32) -> Result<(), PushEnd>
+        ensures ok { OnOk result (self.new ≡ self.old ++ turn_of hart count) }
+        ensures refused { MatchOption (first_refusal_of self.old (turn_of hart count))
+            (IsOkUnless result PushEnd.Memory) (λ end. result ≡ Err end) }
+    {
+        if count == 0 {
+            return Ok(());
+        }
+        self.push(Event::Turn { hart, count })
+    }
+
     /// The events in order.
     pub fn events(&self) -> &[Event]
         ensures events { result.now ≡ self.now }
@@ -146,6 +160,28 @@ impl Recording {
     {
         self.total
     }
+}
+
+/// A schedule of one hart: `total` steps, with its lines set to `mask` after `at` of them. A turn of no
+/// steps is left out. It is refused as `push` refuses the first of the events that breaks a rule.
+pub fn raise_at(
+    alloc: Global,
+    total: u32,
+    at: u32,
+    hart: u32,
+    mask: u32,
+) -> Result<Recording, PushEnd>
+    requires { at ≤ total }
+    ensures events { IfOk result (λ recording. recording ≡ raised_at total at hart mask) }
+    ensures ok { OnOk result (first_refusal_of [] (raised_at total at hart mask) ≡ None) }
+    ensures refused { IfErr result (λ end. end ≢ PushEnd.Memory →
+        first_refusal_of [] (raised_at total at hart mask) ≡ Some end) }
+{
+    let mut recording = Recording::new(alloc);
+    recording.push_turn(hart, at)?;
+    recording.push(Event::Lines { hart, mask })?;
+    recording.push_turn(hart, total - at)?;
+    Ok(recording)
 }
 
 #[cfg(test)]
@@ -205,5 +241,54 @@ mod tests {
         assert_eq!(rt; recording.push(turn(1, 1_000_000_001)), Err(PushEnd::Steps));
         assert_eq!(rt; recording.events().len(), 65_536);
         Ok(())
+    }
+
+    #[test]
+    fn lines_are_raised_between_two_turns(rt: HostRuntime) -> Result<(), Fail> {
+        let recording = raise_at(rt.alloc(), 80, 41, 3, 0x80)?;
+        let events = [turn(3, 41), lines(3, 0x80), turn(3, 39)];
+        assert_eq!(rt; recording.events(), events.as_slice());
+        assert_eq!(rt; recording.total(), 80);
+        Ok(())
+    }
+
+    #[test]
+    fn a_turn_of_no_steps_is_left_out(rt: HostRuntime) -> Result<(), Fail> {
+        let first = raise_at(rt.alloc(), 80, 0, 0, 0x80)?;
+        assert_eq!(rt; first.events(), [lines(0, 0x80), turn(0, 80)].as_slice());
+        let last = raise_at(rt.alloc(), 80, 80, 0, 0x80)?;
+        assert_eq!(rt; last.events(), [turn(0, 80), lines(0, 0x80)].as_slice());
+        let alone = raise_at(rt.alloc(), 0, 0, 0, 0x80)?;
+        assert_eq!(rt; alone.events(), [lines(0, 0x80)].as_slice());
+        Ok(())
+    }
+
+    #[test]
+    fn raising_is_refused_as_by_push(rt: HostRuntime) {
+        let beyond = HARTS as u32;
+        assert_eq!(rt;
+            raise_at(rt.alloc(), 1, 0, beyond, 0x1).err(),
+            Some(PushEnd::Hart)
+        );
+        assert_eq!(rt;
+            raise_at(rt.alloc(), 1, 1, beyond, 0x80).err(),
+            Some(PushEnd::Hart)
+        );
+        assert_eq!(rt;
+            raise_at(rt.alloc(), 1, 0, 0, 0x1).err(),
+            Some(PushEnd::Mask)
+        );
+        assert_eq!(rt;
+            raise_at(rt.alloc(), 1_000_000_001, 1_000_000_001, 0, 0x1).err(),
+            Some(PushEnd::Steps)
+        );
+        assert_eq!(rt;
+            raise_at(rt.alloc(), 1_000_000_001, 1, 0, 0x1).err(),
+            Some(PushEnd::Mask)
+        );
+        assert_eq!(rt;
+            raise_at(rt.alloc(), 1_000_000_001, 1, 0, 0x80).err(),
+            Some(PushEnd::Steps)
+        );
     }
 }

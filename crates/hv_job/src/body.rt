@@ -5,6 +5,7 @@ ghost use Rattle.hv_lex.specs.Lines.{lines_of};
 ghost use Rattle.hv_job.specs.Drafted.{ContinuesAt, GivesDraft, GivesJob, LeadsTo};
 ghost use Rattle.hv_line.specs.Ranges.{IsStatement};
 ghost use Rattle.hv_job.specs.JobOf.{draft_with, begins_image, body_from, draft_of, header_from, is_debug as is_debug_of, is_image, line_with, storage_from};
+ghost use Rattle.hv_line.specs.Lines.{words_of};
 
 use crate::commands::read_commands;
 use crate::draft::Draft;
@@ -12,7 +13,10 @@ use crate::ends::JobEnd;
 use crate::images::{Rest, at_line, read_image};
 use crate::job::Job;
 use hv_lex::first_line;
-use hv_line::{JobKind, JobLineEnd, Statement, begins_with, has_allowed_bytes, has_words, is_header, is_only, read_statement, read_storage_line};
+use hv_line::{
+    JobKind, JobLineEnd, Statement, begins_with, has_allowed_bytes, has_words, is_header, is_only,
+    read_statement, read_storage_line,
+};
 use hv_list::Items;
 use std::alloc::Global;
 

@@ -2,6 +2,7 @@
 
 ghost use Rattle.std.specs.Prelude.{◌≡◌, ◌+◌, ◌<◌, ◌^◌, false, if◌then◌else◌, [], length, OnOk};
 ghost use Rattle.hv_lex.specs.Lines.{lines_of};
+ghost use Rattle.hv_line.specs.Lines.{words_of};
 ghost use Rattle.hv_job.specs.Commands.{commands_from, commands_with, is_over as is_over_of, line_commands};
 ghost use Rattle.hv_job.specs.Drafted.{GivesCommands, Makes};
 ghost use Rattle.hv_job.specs.IsJob.{is_break};
@@ -10,7 +11,10 @@ use crate::ends::JobEnd;
 use crate::images::at_line;
 use crate::job::DebugLine;
 use hv_lex::first_line;
-use hv_line::{DebugCommand, JOB_BREAKS, JOB_COMMANDS, JobKind, JobLineEnd, has_allowed_bytes, has_words, join_words, read_command};
+use hv_line::{
+    DebugCommand, JOB_BREAKS, JOB_COMMANDS, JobKind, JobLineEnd, has_allowed_bytes, has_words,
+    join_words, read_command,
+};
 use hv_list::Items;
 use std::alloc::{AllocError, Global};
 use std::marker::Model;

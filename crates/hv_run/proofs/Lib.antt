@@ -2,6 +2,7 @@ pub mod Changes
 pub mod Guests
 pub mod Lists
 pub mod Moves
+pub mod Orders
 pub mod Promised
 pub mod Ring
 pub mod Routes

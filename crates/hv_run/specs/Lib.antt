@@ -1,3 +1,4 @@
+pub mod Order
 pub mod Play
 pub mod Promises
 pub mod Record

@@ -1,6 +1,7 @@
 //! What always holds of runs, whatever the start and the moves. Each function here is empty: it states one law, which is
 //! proved.
 
+ghost use Rattle.hv_run.specs.Order.{OrderLaw};
 ghost use Rattle.hv_run.specs.Promises.{FaultsLaw, GuestsLaw};
 ghost use Rattle.hv_run.specs.Run.{MomentLaw};
 
@@ -19,4 +20,9 @@ pub fn faults_reach_first_refusing_level()
 /// The state at each moment is an item of the list of all states.
 pub fn moments_are_items_of_run()
     ensures { MomentLaw }
+{}
+
+/// A change of one hart's lines and a step of another hart give the same state and the same outcome in either order.
+pub fn lines_and_steps_of_two_harts_commute()
+    ensures { OrderLaw }
 {}

@@ -133,7 +133,7 @@ lines_same h items st next e same =
     e ∙ ap (lined_of (own h items st)) (sym same ∙ lines_own h items st) ∙ lined_own (own h items st)
 
 -- the registers of the other harts
-hart_other : (harts : List Regs) (k h : ℕ) (r : Regs) → h ≢ k → slice_get (set harts k r) h ≡ slice_get harts h
+pub hart_other : (harts : List Regs) (k h : ℕ) (r : Regs) → h ≢ k → slice_get (set harts k r) h ≡ slice_get harts h
 hart_other [] k h r ne = refl
 hart_other (q ∷ qs) zero zero r ne = absurd (ne refl)
 hart_other (q ∷ qs) zero (suc h) r ne = refl

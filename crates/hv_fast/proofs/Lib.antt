@@ -5,6 +5,7 @@ pub mod Growing
 pub mod Opening
 mod Putting
 pub mod Remembering
+pub mod Riders
 pub mod Saying
 pub mod Sparing
 pub mod Staying

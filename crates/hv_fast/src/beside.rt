@@ -156,9 +156,11 @@ impl Beside {
     /// One instruction of the machine at the end of the pin of a hart, which rode last, with the words that it changed. There is
     /// none where that can't be done by the pin; then nothing changed.
     #[inline(always)]
+    #[tactic(auto, using(crate::proofs::Riders::riders))]
     pub(crate) fn ride(&mut self, store: &mut Store, hart: u32) -> Option<Changed>
         requires hart { hart < length self.old.pins.items }
         requires rider { self.old.rider ≡ Some hart }
+        requires right { (R : List Regs) × (r : Regs) × (slice_get R hart ≡ Some r) × IsRightBeside store.old R self.old }
         ensures right { (R : List Regs) (r : Regs) → slice_get R hart ≡ Some r → IsRightBeside store.old R self.old → IsRightBeside store.new R self.new }
         ensures rode { IfSome result (λ rows. (R : List Regs) (r : Regs) → slice_get R hart ≡ Some r → IsRightBeside store.old R self.old
             → pending_of r ≡ None → host_step_of store.old hart r ≡ Worked store.new r) }
@@ -214,6 +216,7 @@ impl Beside {
     #[inline(never)]
     fn fill(&mut self, store: &Store, hart: u32, miss: Miss)
         requires hart { hart < length self.old.pins.items }
+        requires right { (R : List Regs) × (r : Regs) × (slice_get R hart ≡ Some r) × IsRightBeside store.now R self.old }
         ensures right { (R : List Regs) (r : Regs) → slice_get R hart ≡ Some r → IsRightBeside store.now R self.old → IsRightBeside store.now R self.new }
         ensures count { length self.new.pins.items ≡ length self.old.pins.items }
     {

@@ -1,0 +1,167 @@
+-- All that is kept beside the state is right after a ride.
+use Rattle.std.proofs.Common.{◌≡◌, ℕ, ◌/◌, ◌<◌, ◌==◌, ◌||◌, inl, inr, Bool, true, false, List, [], ◌∷◌, map, Option, Some, None, refl, ap, ◌∙◌, sym, subst, slice_get, length}
+use Rattle.std.specs.Prelude.{All}
+use Rattle.std.specs.List.{AllByRecursion}
+use Rattle.std.proofs.lemmas.Bool.Decides.{eqb_tells}
+use Rattle.std.proofs.lemmas.Option.{get_or_from_slice_get, same_Some, slice_get_within}
+use Rattle.hv_word.specs.Words.{has}
+use Rattle.hv_cpu.specs.Regs.{Regs}
+use Rattle.hv_csr.specs.Interrupts.{pending_of}
+use Rattle.hv_store.specs.declared.access.Slot.{Slot}
+use Rattle.hv_exec.specs.Act.{act_of}
+use Rattle.hv_block.specs.Block.{regs_at}
+use Rattle.hv_block.proofs.Words.{regs_back}
+use Rattle.hv_map.specs.Chain.{map_along}
+use Rattle.hv_map.specs.Apart.{blocks_of}
+use Rattle.hv_map.specs.Held.{IsHeld, IsPin}
+use Rattle.hv_map.specs.Item.{Item}
+use Rattle.hv_map.specs.Links.{last_block}
+use Rattle.hv_nest.specs.Step.{Worked, host_step_of}
+use Rattle.hv_cache.specs.Holding.{Entry}
+use Rattle.hv_fast.specs.Beside.{EntriesAreRight, EntryIsRight, IsReady, IsRightBeside, NoPins}
+use Rattle.hv_fast.specs.declared.beside.Beside.{Beside}
+use Rattle.hv_fast.specs.declared.pin.Pin.{Pin}
+use Rattle.hv_fast.specs.Marked.{BlocksIn, Marked, listed}
+use Rattle.hv_fast.specs.Rides.{HasRidden, IsRidden, Quiet, QuietBlocks, marked_by}
+use Rattle.hv_fast.proofs.Descending.{ride}
+use Rattle.hv_fast.proofs.Growing.{pin_ends}
+use Rattle.hv_fast.proofs.Remembering.{memo_kept, right_opens}
+use Rattle.hv_fast.proofs.Staying.{held_rides, pin_rides, quiet_rides}
+
+-- the blocks of the items are in the pages of their blocks
+blocks_push : (g : ℕ) (gs : List ℕ) (items : List Item) → BlocksIn gs items → BlocksIn (g ∷ gs) items
+blocks_push g gs [] h = tt
+blocks_push g gs (x ∷ xs) h = (or_right (x.block == g) (has x.block gs) h.0, blocks_push g gs xs h.1)
+  where
+    or_right : (a b : Bool) → b ≡ true → (a || b) ≡ true
+    or_right true b e = refl
+    or_right false b e = e
+
+has_first : (g : ℕ) (gs : List ℕ) → has g (g ∷ gs) ≡ true
+has_first g gs = ap (λ (b : Bool). b || has g gs) (same_number g)
+  where
+    same_number : (k : ℕ) → (k == k) ≡ true
+    same_number k = elim (eqb_tells k k) [ inl e ↦ e.0 | inr e ↦ absurd (e.1 refl) ]
+
+pub blocks_own : (items : List Item) → BlocksIn (blocks_of items) items
+blocks_own [] = tt
+blocks_own (x ∷ xs) = (has_first x.block (blocks_of xs), blocks_push x.block (blocks_of xs) xs (blocks_own xs))
+
+-- held translations
+entry_rides : (S T U : List ℕ) (paths : List (List ℕ)) (e : Entry) (g : ℕ) (q : Regs) → IsRidden S T U (marked_by e.1) g q → EntryIsRight S paths e → EntryIsRight U paths e
+entry_rides S T U paths e g q ridden right = record {
+  items = right.items;
+  named = right.named;
+  blocks = right.blocks;
+  held =
+      held_rides S T U q right.items (marked_by e.1) g e.0.1 e.1.slot ridden
+          (subst (λ (gs : List ℕ). BlocksIn gs right.items) (sym right.blocks) (blocks_own right.items)) right.held;
+}
+
+pub entries_ride : (S T U : List ℕ) (paths : List (List ℕ)) (es : List Entry) (g : ℕ) (q : Regs) → AllByRecursion (λ (e : Entry). IsRidden S T U (marked_by e.1) g q) es → EntriesAreRight S paths es → EntriesAreRight U paths es
+entries_ride S T U paths [] g q ridden right = tt
+entries_ride S T U paths (e ∷ es) g q ridden right =
+    (entry_rides S T U paths e g q ridden.0 right.0, entries_ride S T U paths es g q ridden.1 right.1)
+
+-- a pin of any hart
+pin_stays_ready : (S T U : List ℕ) (m : Marked) (g : ℕ) (q r : Regs) (p : Pin) → IsRidden S T U m g q → (regs_at S g).next ≡ 0 → q.next ≡ 0 → IsReady S r m p → IsReady U r m p
+pin_stays_ready S T U m g q r p ridden idle none ready = record {
+  pin = pin_rides S T U r q p.chain m g ridden idle none ready.blocks ready.pin;
+  ends = ready.ends;
+  blocks = ready.blocks;
+  quiet = quiet_rides S T U r q p.chain m g ridden idle ready.blocks ready.pin ready.quiet;
+  memo =
+      memo_kept S U p.chain m.tables m.tables p.memo
+          (λ page slot held. held_rides S T U q p.chain m g page slot ridden ready.blocks held) ready.memo;
+}
+
+-- the registers that were put into a block are those in it
+own_regs : (S T U : List ℕ) (m : Marked) (g : ℕ) (q : Regs) → IsRidden S T U m g q → regs_at U g ≡ q
+own_regs S T U m g q ridden =
+    ap (λ (X : List ℕ). regs_at X g) ridden.put
+    ∙ regs_back T g q (subst (λ (n : ℕ). g < n / 1024) ridden.len ridden.there)
+
+-- no pin is in use
+none_live : (ps : List Pin) (k : ℕ) (o : Pin) → All (λ (p : Pin). p.live ≡ false) ps → slice_get ps k ≡ Some o → o.live ≡ false
+none_live ps k o none found =
+    ap (λ (p : Pin). p.live) (sym (get_or_from_slice_get ps k o o found)) ∙ none k o (slice_get_within ps k o found)
+
+-- where no other machine runs then
+pub ridden_right : (S U : List ℕ) (R : List Regs) (b c : Beside) (h : ℕ) (r q : Regs) (p : Pin)
+    → IsRightBeside S R b
+    → slice_get R h ≡ Some r
+    → slice_get b.pins.items h ≡ Some p
+    → b.rider ≡ Some h
+    → p.live ≡ true
+    → HasRidden S U b.marks b.cache.entries p.chain p.block b.inner q
+    → q.next ≡ 0
+    → c ≡ record b { inner = q }
+    → IsRightBeside U R c
+ridden_right S U R b c h r q p right hart mine rider live rode none is = subst (IsRightBeside U R) (sym is) now
+  where
+    ready : IsReady S r b.marks p
+    ready = right.pins h r p hart mine live
+
+    idle : (regs_at S p.block).next ≡ 0
+    idle = (pin_ends S r p.chain b.marks p.block ready.pin ready.ends).1
+
+    now : IsRightBeside U R (record b { inner = q })
+    now = record {
+      count = right.count;
+      pins = λ k s o there found lives.
+          pin_stays_ready S rode.after U b.marks p.block q s o rode.marked idle none (right.pins k s o there found lives);
+      rider = λ k o says found.
+          let same : k ≡ h = same_Some k h (sym says ∙ rider) in
+          let here : o ≡ p = same_Some o p (sym found ∙ ap (slice_get b.pins.items) same ∙ mine) in
+          (ap (λ (x : Pin). x.live) here ∙ live, ap (λ (x : Pin). regs_at U x.block) here ∙ own_regs S rode.after U b.marks p.block q rode.marked);
+      held = entries_ride S rode.after U b.ids b.cache.entries p.block q rode.held right.held;
+    }
+
+-- where another machine runs then, and all pins are dropped
+pub ridden_dropped : (S U : List ℕ) (R : List Regs) (b c d : Beside) (h : ℕ) (q : Regs) (p : Pin)
+    → IsRightBeside S R b
+    → HasRidden S U b.marks b.cache.entries p.chain p.block b.inner q
+    → c ≡ record b { inner = q }
+    → NoPins c d
+    → IsRightBeside U R d
+ridden_dropped S U R b c d h q p right rode is dropped = record {
+  count = dropped.count ∙ ap (λ (x : Beside). length x.pins.items) is ∙ right.count;
+  pins = λ k s o there found lives. absurd (let f : true ≡ false = sym lives ∙ none_live d.pins.items k o dropped.none found in cc);
+  rider = λ k o says found. absurd (let f : None ≡ Some k = sym dropped.rider ∙ says in cc);
+  held =
+      let entries : d.cache.entries ≡ b.cache.entries = ap (λ x. x.entries) (dropped.cache ∙ ap (λ (x : Beside). x.cache) is) in
+      let ids : d.ids ≡ b.ids = dropped.ids ∙ ap (λ (x : Beside). x.ids) is in
+      subst (λ es. EntriesAreRight U d.ids es) (sym entries) (
+        subst (λ paths. EntriesAreRight U paths b.cache.entries) (sym ids)
+            (entries_ride S rode.after U b.ids b.cache.entries p.block q rode.held right.held),
+      );
+}
+
+-- the step of the hart
+pub ridden_step : (S U : List ℕ) (R : List Regs) (b : Beside) (h : ℕ) (r q : Regs) (p : Pin)
+    → IsRightBeside S R b
+    → slice_get R h ≡ Some r
+    → slice_get b.pins.items h ≡ Some p
+    → b.rider ≡ Some h
+    → p.live ≡ true
+    → pending_of r ≡ None
+    → pending_of b.inner ≡ None
+    → HasRidden S U b.marks b.cache.entries p.chain p.block b.inner q
+    → host_step_of S h r ≡ Worked U r
+ridden_step S U R b h r q p right hart mine rider live quiet idle rode =
+    let ready : IsReady S r b.marks p = right.pins h r p hart mine live in
+    let inner : regs_at S p.block ≡ b.inner = (right.rider h p rider mine).1 in
+    ride S rode.after U h r q p.chain b.marks p.block
+        ready.pin
+        ready.blocks
+        (all_quiet p.chain ready.quiet)
+        ready.ends
+        (ap pending_of inner ∙ idle)
+        (ap (λ (k : Regs). act_of S (map_along S p.chain) 0 k) inner ∙ rode.acts)
+        rode.marked
+  where
+    all_quiet : (items : List Item) → QuietBlocks S items → Quiet S r items
+    all_quiet [] h = tt
+    all_quiet (x ∷ xs) h = (quiet, h)
+
+pub ruleset riders = (ridden_right, ridden_dropped, ridden_step, right_opens)

@@ -1,16 +1,10 @@
 -- What is kept beside the state stays right where more is marked, where the path of a hart is pinned, and where the
 -- registers at its end are fetched.
-use Rattle.std.proofs.Common.{◌≡◌, ◌≢◌, ◌++◌, ℕ, zero, suc, ◌+◌, ◌<◌, ◌≤◌, inl, inr, true, false, Bool, ◌||◌, List, [], ◌∷◌, length, Option, Some, None, IfSome, refl, ap, ◌∙◌, sym, subst, arith, slice_get, get_or, set, length-set, All}
-use borrow.Author.Count.{below_more}
-use Rattle.std.specs.List.{AllByRecursion, list_all}
-use Rattle.std.specs.Option.{option_map}
-use Rattle.std.specs.Prelude.{nat_lt}
-use Rattle.std.proofs.lemmas.Bool.{ltb-true}
+use Rattle.std.proofs.Common.{◌≡◌, ◌≢◌, ◌++◌, ℕ, zero, suc, ◌<◌, inl, inr, true, false, Bool, ◌||◌, List, [], ◌∷◌, length, Option, Some, None, IfSome, ap, ◌∙◌, sym, subst, arith, slice_get, get_or, set, length-set}
+use Rattle.std.specs.List.{AllByRecursion}
 use Rattle.std.proofs.lemmas.Bool.Decides.{eqb_tells}
 use Rattle.std.proofs.lemmas.List.{get_or-set_other, get_or-set_same}
-use Rattle.std.proofs.lemmas.List.Sums.{AllPass-from_list_all}
 use Rattle.std.proofs.lemmas.Option.{get_or_from_slice_get, same_Some, slice_get-get_or, slice_get_within}
-use Rattle.hv_limits.specs.Limits.{pages_limit}
 use Rattle.hv_word.specs.Words.{has}
 use Rattle.hv_cpu.specs.Regs.{Regs}
 use Rattle.hv_store.specs.declared.access.Access.{Access}
@@ -21,8 +15,7 @@ use Rattle.hv_block.proofs.Blocks.{block_holds}
 use Rattle.hv_map.specs.Gathered.{Listed}
 use Rattle.hv_map.specs.Held.{IsPin, Lists}
 use Rattle.hv_map.specs.Item.{Item}
-use Rattle.hv_map.specs.Links.{chain_item, last_block}
-use Rattle.hv_map.specs.declared.chain.ChainItem.{ChainItem}
+use Rattle.hv_map.specs.Links.{last_block}
 use Rattle.hv_cache.specs.Holding as holding
 use Rattle.hv_fast.specs.declared.beside.Beside.{Beside}
 use Rattle.hv_fast.specs.declared.pin.Pin.{Pin}

@@ -53,14 +53,6 @@ pub record IsRightBeside (S : List ℕ) (R : List Regs) (b : Beside) : Type 0 wh
       → (p.live ≡ true) × (regs_at S p.block ≡ b.inner)
   pub held : EntriesAreRight S b.ids b.cache.entries
 
--- nothing but the marks is another
-pub record SameButMarks (b c : Beside) : Type 0 where
-  pub pins : c.pins ≡ b.pins
-  pub ids : c.ids ≡ b.ids
-  pub cache : c.cache ≡ b.cache
-  pub rider : c.rider ≡ b.rider
-  pub inner : c.inner ≡ b.inner
-
 -- no pin is in use, and nothing is marked; numbers and held translations are as before
 pub record NoPins (b c : Beside) : Type 0 where
   pub none : All (λ (p : Pin). p.live ≡ false) c.pins.items

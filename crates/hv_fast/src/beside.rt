@@ -10,12 +10,11 @@ ghost use Rattle.hv_map.specs.Chain.{running_path};
 ghost use Rattle.hv_nest.specs.Changes.{differences};
 ghost use Rattle.hv_nest.specs.Kinds.{NextBelow};
 ghost use Rattle.hv_nest.specs.Step.{Worked, host_step_of};
-ghost use Rattle.hv_map.specs.Held.{Lists};
-ghost use Rattle.hv_fast.specs.Beside.{IsBlockStill, IsRightBeside, NoPins, SameButMarks, WordIsSpared};
-ghost use Rattle.hv_fast.specs.Marked.{BlocksIn, IsMore, listed};
+ghost use Rattle.hv_fast.specs.Beside.{IsBlockStill, IsRightBeside, NoPins, WordIsSpared};
 
 use crate::following::follow;
 use crate::marks::Marks;
+use crate::memo::Memo;
 use crate::pin::Pin;
 use crate::riding::{Miss, ride};
 use crate::translations::hold;
@@ -23,8 +22,7 @@ use hv_block::read_block;
 use hv_cache::MapCache;
 use hv_cpu::{Cpu, reset};
 use hv_csr::pending;
-use hv_limits::PAGES;
-use hv_map::{Chain, Pages, Path};
+use hv_map::{Pages, Path};
 use hv_nest::{Changed, Notes, path_of};
 use hv_store::{Access, Slot, Store, Way};
 use hv_vmid::Ids;
@@ -86,31 +84,32 @@ impl Beside {
         ensures rider { result ≡ true → self.new.rider ≡ Some hart }
         ensures count { length self.new.pins.items ≡ length self.old.pins.items }
     {
-        if !self.pins[hart as usize].live && !self.pin(store, cpu, hart) {
+        if !self.pin(store, cpu, hart) {
             return false;
         }
         let block = self.pins[hart as usize].block;
         if block >= store.pages() {
             return false;
         }
-        match read_block(store, block) {
-            Some(found) => {
-                self.inner = found.cpu;
-                self.rider = Some(hart);
-                true
-            }
-            None => false,
-        }
+        let Some(found) = read_block(store, block) else {
+            return false;
+        };
+        self.inner = found.cpu;
+        self.rider = Some(hart);
+        true
     }
 
-    // Pins the path of a hart, if that can be done.
+    // Pins the path of a hart where it isn't pinned, if that can be done.
     fn pin(&mut self, store: &Store, cpu: &Cpu, hart: u32) -> bool
         requires hart { hart < length self.old.pins.items }
         requires next { NextBelow (page_count store.now) cpu.now }
         ensures right { (R : List Regs) → slice_get R hart ≡ Some cpu.now → IsRightBeside store.now R self.old → IsRightBeside store.now R self.new }
-        ensures live { IfSome (slice_get self.new.pins.items hart) (λ p. result ≡ true → p.live ≡ true) }
+        ensures live { result ≡ true → IfSome (slice_get self.new.pins.items hart) (λ p. p.live ≡ true) }
         ensures count { length self.new.pins.items ≡ length self.old.pins.items }
     {
+        if self.pins[hart as usize].live {
+            return true;
+        }
         let mut tables = Pages::new();
         let Some(chain) = follow(store, cpu, &mut tables) else {
             return false;
@@ -118,38 +117,19 @@ impl Beside {
         let Some(block) = chain.last_block() else {
             return false;
         };
-        if tables.full || !self.mark(&chain, tables.as_slice()) {
+        if tables.full {
             return false;
         }
-        if self.rider == Some(hart) {
-            self.rider = None;
-        }
-        let pin = &mut self.pins[hart as usize];
-        pin.memo.clear();
-        pin.chain = chain;
-        pin.block = block;
-        pin.live = true;
-        true
-    }
-
-    // Marks what the machines of a chain are found by, where it can be marked: their blocks, and pages of tables.
-    fn mark(&mut self, chain: &Chain, tables: &[u32]) -> bool
-        ensures more { IsMore self.old.marks self.new.marks }
-        ensures rest { SameButMarks self.old self.new }
-        ensures tables { result ≡ true → Lists (listed self.new.marks.tables) tables.now }
-        ensures blocks { result ≡ true → BlocksIn self.new.marks.blocks chain.now }
-    {
-        if tables.iter().any(|page| *page >= PAGES) {
+        if !self.marks.mark_path(&chain, tables.as_slice()) {
             return false;
         }
-        self.marks.mark_tables(tables);
-        for i in 0..chain.len() {
-            let block = chain.item(i).block;
-            if block >= PAGES {
-                return false;
-            }
-            self.marks.mark_block(block);
-        }
+        self.rider = None;
+        self.pins[hart as usize] = Pin {
+            live: true,
+            block,
+            chain,
+            memo: Memo::new(),
+        };
         true
     }
 
@@ -235,7 +215,7 @@ impl Beside {
         let Some(host) = opened(kept.slot(), miss.access) else {
             return;
         };
-        if !mark_all(&mut self.marks, kept.tables(), kept.blocks()) {
+        if !self.marks.mark_all(kept.tables(), kept.blocks()) {
             return;
         }
         self.pins[hart as usize]
@@ -309,20 +289,4 @@ fn opened(slot: Slot, access: Access) -> Option<u32>
         Way::Open { host } => Some(host),
         Way::Shut { .. } => None,
     }
-}
-
-// Marks what a held translation rests on, where it can be marked.
-fn mark_all(marks: &mut Marks, tables: &[u32], blocks: &[u32]) -> bool
-    ensures more { IsMore marks.old marks.new }
-    ensures tables { result ≡ true → Lists (listed marks.new.tables) tables.now }
-    ensures blocks { result ≡ true → Lists (listed marks.new.blocks) blocks.now }
-{
-    if tables.iter().any(|page| *page >= PAGES) || blocks.iter().any(|page| *page >= PAGES) {
-        return false;
-    }
-    marks.mark_tables(tables);
-    for page in blocks {
-        marks.mark_block(*page);
-    }
-    true
 }

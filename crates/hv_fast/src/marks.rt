@@ -1,13 +1,15 @@
 //! Marks on the bare pages on which something rests that is kept beside the storage.
 
-ghost use Rattle.std.specs.Prelude.{◌≡◌, ℕ, ◌<◌, ◌≤◌, ◌++◌, ◌∷◌, [], All, IfOk, if◌then◌else◌, true, length, slice_index, vec_capacity};
+ghost use Rattle.std.specs.Prelude.{◌≡◌, ℕ, ◌<◌, ◌≤◌, ◌++◌, ◌∷◌, [], All, IfOk, if◌then◌else◌, true, length, nat_lt, slice_index, vec_capacity};
+ghost use Rattle.std.specs.List.{list_all};
 ghost use Rattle.hv_limits.specs.Limits.{pages_limit};
 ghost use Rattle.hv_word.specs.Words.{has};
 ghost use Rattle.hv_map.specs.Held.{Lists};
-ghost use Rattle.hv_fast.specs.Marked.{IsMore, has_mark, listed};
+ghost use Rattle.hv_fast.specs.Marked.{BlocksIn, IsMore, has_mark, listed};
 ghost use Rattle.hv_fast.specs.Marking.{no_marks, with_table, with_block, with_tables};
 
 use hv_limits::PAGES;
+use hv_map::Chain;
 use std::alloc::{AllocError, Global};
 use std::marker::Model;
 
@@ -109,6 +111,42 @@ impl Marks {
         }
     }
 
+    /// Marks what the machines of a chain are found by, where all of it can be marked: these pages of tables, and the blocks.
+    pub(crate) fn mark_path(&mut self, chain: &Chain, tables: &[u32]) -> bool
+        ensures more { IsMore self.old self.new }
+        ensures tables { result ≡ true → Lists (listed self.new.tables) tables.now }
+        ensures blocks { result ≡ true → BlocksIn self.new.blocks chain.now }
+    {
+        if !can_be_marked(tables) {
+            return false;
+        }
+        self.mark_tables(tables);
+        for i in 0..chain.len() {
+            let block = chain.item(i).block;
+            if block >= PAGES {
+                return false;
+            }
+            self.mark_block(block);
+        }
+        true
+    }
+
+    /// Marks some pages of tables and some of control blocks, where all can be marked.
+    pub(crate) fn mark_all(&mut self, tables: &[u32], blocks: &[u32]) -> bool
+        ensures more { IsMore self.old self.new }
+        ensures tables { result ≡ true → Lists (listed self.new.tables) tables.now }
+        ensures blocks { result ≡ true → Lists (listed self.new.blocks) blocks.now }
+    {
+        if !can_be_marked(tables) || !can_be_marked(blocks) {
+            return false;
+        }
+        self.mark_tables(tables);
+        for page in blocks {
+            self.mark_block(*page);
+        }
+        true
+    }
+
     /// Takes all marks away, in time linear in how many pages are marked.
     pub(crate) fn clear(&mut self)
         ensures { self.new ≡ no_marks }
@@ -118,6 +156,13 @@ impl Marks {
         self.tables.clear();
         self.blocks.clear();
     }
+}
+
+// Whether each of some pages can be marked.
+fn can_be_marked(pages: &[u32]) -> bool
+    ensures { result ≡ list_all (λ g. nat_lt g pages_limit) pages.now }
+{
+    pages.iter().all(|page| *page < PAGES)
 }
 
 // Some zeros.

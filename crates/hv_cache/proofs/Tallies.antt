@@ -1,6 +1,6 @@
 -- The tally stays that of the entries, where entries come and go.
-use Rattle.std.proofs.Common.{◌≡◌, ℕ, zero, suc, ◌+◌, ◌-◌, ◌*◌, ◌^◌, ◌<◌, ◌≤◌, ◌==◌, Bool, true, false, cond, List, [], ◌∷◌, length, take, Option, Some, None, slice_get, slice_index, inl, inr, refl, sym, subst, ap, ◌∙◌, arith}
-use Rattle.std.proofs.lemmas.Bool.{and_parts, cases_Bool, eqb-true}
+use Rattle.std.proofs.Common.{◌≡◌, ℕ, ◌+◌, ◌-◌, ◌*◌, ◌≤◌, ◌==◌, Bool, List, [], ◌∷◌, length, take, Option, Some, None, slice_get, slice_index, inl, inr, refl, sym, subst, ap, ◌∙◌, arith}
+use Rattle.std.proofs.lemmas.Bool.{cases_Bool}
 use Rattle.std.proofs.lemmas.List.{take_all}
 use Rattle.std.proofs.lemmas.List.Sums.{count_by-le-length}
 use Rattle.std.specs.List.{AllByRecursion}
@@ -10,31 +10,12 @@ use Rattle.lru.specs.LruCache.{IsValid, displaced, lru_cache, promoted, put_entr
 use Rattle.lru.proofs.CallerLemmas.{Contains-lookup_entry}
 use Rattle.hv_cache.specs.Kept.{Kept}
 use Rattle.hv_cache.specs.Holding.{Entry, Holding, Key, entries_limit, same, with_entry}
-use Rattle.hv_cache.specs.Counting.{Adds, Covers, HasRoom, IsShort, IsTally, Tallied, occurrences, pages_named, tables_named, total}
-use Rattle.hv_cache.proofs.Totals.{entry_part, part, total-remove, total-take}
+use Rattle.hv_cache.specs.Counting.{Adds, Covers, HasRoom, IsShort, IsTally, Tallied, pages_named, tables_named, total}
+use Rattle.hv_cache.proofs.Staying.{all_found, all_removed, all_with_entry, same_is}
+use Rattle.hv_cache.proofs.Totals.{entry_part, total-remove, total-take}
 
 abbrev Short : Entry → Type 0
 Short e = IsShort e.1
-
--- ---- all the entries that stay
-all_removed : (test : Key → Bool) (es : List Entry) → AllByRecursion Short es → AllByRecursion Short (remove_entry test es)
-all_removed test [] all = all
-all_removed test (e ∷ es) all = elim (cases_Bool (test e.0)) [
-  | inl t ↦ rw t all.1
-  | inr t ↦ rw t (all.0, all_removed test es all.1)
-]
-
-all_taken : (n : ℕ) (es : List Entry) → AllByRecursion Short es → AllByRecursion Short (take n es)
-all_taken zero es all = tt
-all_taken (suc n) [] all = all
-all_taken (suc n) (e ∷ es) all = (all.0, all_taken n es all.1)
-
-all_found : (test : Key → Bool) (es : List Entry) (e : Entry) → AllByRecursion Short es → lookup_entry test es ≡ Some e → Short e
-all_found test [] e all h = cc
-all_found test (f ∷ es) e all h = elim (cases_Bool (test f.0)) [
-  | inl t ↦ let g : Some f ≡ Some e = rw t at h in let is : f ≡ e = cc in subst Short is all.0
-  | inr t ↦ all_found test es e all.1 (rw t at h)
-]
 
 -- ---- an entry that is found, and the others
 found : (test : Key → Bool) (es : List Entry) → option_map (λ (e : Entry). e.1) (lookup_entry test es) ≡ lookup test es
@@ -85,10 +66,7 @@ tables_bound g k h = omega (arith, h, count_by-le-length (λ x. g == x) k.tables
 kept_first : (c : Holding) (key : Key) (k : Kept) (o : Option Entry) → IsValid same c → lookup_entry (same key) c.entries ≡ o → option_map_or (λ (e : Entry). (e.0, k) ∷ remove_entry (same key) c.entries) o ((key, k) ∷ take (c.cap - 1) c.entries) ≡ with_entry c key k
 kept_first c key k None valid h = ap (λ (es : List Entry). (key, k) ∷ take (c.cap - 1) es) (sym (none_removed (same key) c.entries h))
 kept_first c key k (Some e) valid h =
-    let b = and_parts (key.0 == e.0.0) (key.1 == e.0.1) (Contains-lookup_entry (same key) c.entries e h).1 in
-    let x : key.0 ≡ e.0.0 = eqb-true _ _ b.0 in
-    let y : key.1 ≡ e.0.1 = eqb-true _ _ b.1 in
-    let is : e.0 ≡ key = sym (ap (λ (n : ℕ). (n, key.1)) x ∙ ap (λ (n : ℕ). (e.0.0, n)) y) in
+    let is : e.0 ≡ key = sym (same_is key e.0 (Contains-lookup_entry (same key) c.entries e h).1) in
     let one = one_removed (same key) c.entries e h in
     let all : take (c.cap - 1) (remove_entry (same key) c.entries) ≡ remove_entry (same key) c.entries = take_all (c.cap - 1) (remove_entry (same key) c.entries) (omega (arith, one, valid.1)) in
     ap (λ (j : Key). (j, k) ∷ remove_entry (same key) c.entries) is ∙ ap (λ (es : List Entry). (key, k) ∷ es) (sym all)
@@ -115,7 +93,7 @@ unfolding total
 moved test c t None h is = record { few = is.few; short = is.short; pages = is.pages; tables = is.tables }
 moved test c t (Some e) h is = record {
   few = is.few;
-  short = (all_found test c.entries e is.short h, all_removed test c.entries is.short);
+  short = (all_found Short test c.entries e is.short h, all_removed Short test c.entries is.short);
   pages = λ g. let sum = total_found (pages_named g) test c.entries e h in let was = is.pages g in omega (arith, sum, was);
   tables = λ g. let sum = total_found (tables_named g) test c.entries e h in let was = is.tables g in omega (arith, sum, was);
 }
@@ -132,7 +110,7 @@ covers_found test c t k h is = record {
 pub tally_removed : (test : Key → Bool) (c : Holding) (t u : Tallied) (k : Kept) → lookup test c.entries ≡ Some k → IsTally c t → Adds u k t → IsTally (lru_cache (remove_entry test c.entries) c.cap) u
 tally_removed test c t u k h is adds = record {
   few = is.few;
-  short = all_removed test c.entries is.short;
+  short = all_removed Short test c.entries is.short;
   pages = λ g. let sum = part_found (pages_named g) test c.entries k h in let was = is.pages g in let less = adds.pages g in omega (arith, sum, was, less);
   tables = λ g. let sum = part_found (tables_named g) test c.entries k h in let was = is.tables g in let less = adds.tables g in omega (arith, sum, was, less);
 }
@@ -140,7 +118,7 @@ tally_removed test c t u k h is adds = record {
 pub tally_same : (test : Key → Bool) (c : Holding) (t : Tallied) → lookup test c.entries ≡ None → IsTally c t → IsTally (lru_cache (remove_entry test c.entries) c.cap) t
 tally_same test c t h is = record {
   few = is.few;
-  short = all_removed test c.entries is.short;
+  short = all_removed Short test c.entries is.short;
   pages = λ g. let sum = rw h at (total-remove (pages_named g) test c.entries) in let was = is.pages g in omega (arith, sum, was);
   tables = λ g. let sum = rw h at (total-remove (tables_named g) test c.entries) in let was = is.tables g in omega (arith, sum, was);
 }
@@ -162,7 +140,7 @@ has_room c t k valid is short = record {
 short_put : (c : Holding) (key : Key) (k : Kept) → IsValid same c → IsShort k → AllByRecursion Short c.entries → AllByRecursion Short (put_entries same c key k)
 short_put c key k valid short all =
     subst (AllByRecursion Short) (sym (put_first c key k valid))
-    ((short, all_taken (c.cap - 1) (remove_entry (same key) c.entries) (all_removed (same key) c.entries all)))
+    (all_with_entry Short c key k short all)
 
 pub tally_put : (c : Holding) (t u : Tallied) (key : Key) (k : Kept) → displaced same c key k ≡ None → IsValid same c → IsShort k → IsTally c t → Adds t k u → IsTally (lru_cache (put_entries same c key k) c.cap) u
 tally_put c t u key k none valid short is adds = record {

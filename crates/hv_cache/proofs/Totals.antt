@@ -1,14 +1,10 @@
 -- Sums over the entries of a cache, and what stays of them where entries come and go.
-use Rattle.std.proofs.Common.{◌≡◌, ℕ, zero, suc, ◌+◌, ◌-◌, ◌*◌, ◌<◌, ◌≤◌, ◌==◌, Bool, true, false, not, ◌||◌, ◌&&◌, cond, List, [], ◌∷◌, ◌++◌, length, take, Option, Some, None, slice_get, refl, sym, ap, ◌∙◌, arith}
-use Rattle.std.proofs.lemmas.Bool.{cases_eq}
-use Rattle.std.proofs.lemmas.Grind.{common_steps}
-use Rattle.std.specs.List.{AllByRecursion, list_any}
-use Rattle.std.specs.Map.{lookup, lookup_entry, remove_entry}
-use Rattle.std.specs.Option.{option_map, option_map_or}
+use Rattle.std.proofs.Common.{◌≡◌, ℕ, zero, suc, ◌+◌, ◌≤◌, ◌==◌, Bool, true, false, not, cond, List, [], ◌∷◌, length, take, Option, Some, None, slice_get, refl, arith}
+use Rattle.std.specs.Map.{lookup, remove_entry}
 use Rattle.hv_word.specs.Words.{has}
 use Rattle.hv_cache.specs.Kept.{Kept, rests_on}
 use Rattle.hv_cache.specs.Holding.{Entry, Key, any_has_table, any_rests_on}
-use Rattle.hv_cache.specs.Counting.{IsShort, occurrences, pages_named, tables_named, total}
+use Rattle.hv_cache.specs.Counting.{occurrences, pages_named, tables_named, total}
 use Rattle.hv_cache.proofs.Occurring.{has_occurring, some_of_sum}
 
 -- what one entry adds, if there is one

@@ -1,6 +1,6 @@
 -- What a cache of translations holds: entries from the most to the least recently used, each under the number of a path
 -- and a page of the machine there, and how many entries it can hold.
-use Rattle.std.specs.Prelude.{ℕ, ◌-◌, Bool, not, ◌&&◌, List, [], ◌∷◌, nat_eq, take}
+use Rattle.std.specs.Prelude.{ℕ, ◌-◌, Bool, not, ◌&&◌, List, ◌∷◌, nat_eq, take}
 use Rattle.std.specs.List.{filter, list_any}
 use Rattle.std.specs.Map.{remove_entry}
 use Rattle.lru.specs.LruCache.{LruCache}

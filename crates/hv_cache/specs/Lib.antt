@@ -1,4 +1,5 @@
-pub mod Kept
-pub mod Holding
 pub mod Counting
+pub mod Holding
+pub mod Kept
+pub mod Laws
 pub mod Lending

@@ -18,8 +18,8 @@ use std::alloc::{AllocError, Global};
 use std::marker::Model;
 use std::num::NonZeroUsize;
 
-/// Translations that are held, each under the number of a path and a page of the machine there. Contracts see the entries,
-/// the most recently used first, and how many there can be.
+/// Translations that are held, each under the number of a path and a page of the machine there. Contracts see the
+/// entries, the most recently used first, and how many there can be.
 #[derive(Drop)]
 pub struct MapCache {
     alloc: Global,
@@ -79,11 +79,9 @@ impl MapCache {
         self.entries.contains((id, page))
     }
 
-    /// Holds the slot of a page of the machine at the end of a chain. The entry rests on the pages of the chain's blocks and
-    /// on the listed pages; it comes first. Where as many as the capacity are held and none of them is for this page, the
-    /// least recently used one goes.
-    ///
-    /// Where memory is wanting, nothing changes.
+    /// Holds the slot of a page of the machine at the end of a chain. The entry rests on the pages of the chain's blocks
+    /// and on the listed pages; it comes first. Where as many as the capacity are held and none of them is for this
+    /// page, the least recently used one goes. Where memory is wanting, nothing changes.
     pub fn keep(
         &mut self,
         id: u32,

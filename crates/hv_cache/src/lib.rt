@@ -6,6 +6,7 @@ mod cache;
 mod counts;
 mod entries;
 mod kept;
+pub mod laws;
 mod tally;
 #[cfg(test)]
 mod tests;

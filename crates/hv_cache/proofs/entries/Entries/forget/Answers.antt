@@ -1,5 +1,5 @@
 -- The entries that rest on the page go one by one.
-use Rattle.std.proofs.Common.{◌≡◌, List, ap, sym, ◌∙◌}
+use Rattle.std.proofs.Common.{List, ap, sym, ◌∙◌}
 use Rattle.lru.specs.LruCache.{lru_cache}
 use Rattle.hv_cache.specs.Kept.{rests_on}
 use Rattle.hv_cache.specs.Holding.{Entry, without_page}

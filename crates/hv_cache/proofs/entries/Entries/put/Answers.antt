@@ -1,5 +1,5 @@
 -- The tally has what comes and no more what goes.
-use Rattle.std.proofs.Common.{◌≡◌, List, Option, Some, None, ap, ◌∙◌, sym}
+use Rattle.std.proofs.Common.{◌≡◌, List, Some, None, ap}
 use Rattle.lru.specs.LruCache.{displaced, lru_cache}
 use Rattle.hv_cache.specs.Holding.{Entry, same}
 use Rattle.hv_cache.proofs.Tallies.{covers_gone, has_room, put_first, tally_pushed, tally_put}

@@ -1,5 +1,5 @@
 -- The tally has no more what goes.
-use Rattle.std.proofs.Common.{◌≡◌, Option, Some, None, sym}
+use Rattle.std.proofs.Common.{◌≡◌, Some, None}
 use Rattle.std.specs.Map.{lookup}
 use Rattle.hv_cache.specs.Holding.{same}
 use Rattle.hv_cache.proofs.Tallies.{covers_found, tally_removed, tally_same}

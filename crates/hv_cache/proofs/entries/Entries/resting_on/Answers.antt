@@ -1,5 +1,5 @@
 -- The key of the next entry is added where the entry rests on the page.
-use Rattle.std.proofs.Common.{◌≡◌, ◌∷◌, List, Bool, length, ap, sym, ◌∙◌, arith}
+use Rattle.std.proofs.Common.{◌≡◌, ◌∷◌, List, length, ap, sym, ◌∙◌, arith}
 use Rattle.std.specs.Map.{keys_of}
 use Rattle.std.specs.List.{filter}
 use Rattle.hv_cache.specs.Kept.{rests_on}

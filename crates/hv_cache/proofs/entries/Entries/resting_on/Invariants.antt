@@ -1,9 +1,9 @@
 -- The keys so far, with those of what is left, are the keys of all; and there is room for what is left.
 use Rattle.std.proofs.Common.{◌≡◌, ◌≤◌, ◌+◌, ◌++◌, length, vec_capacity, vec_len}
-use Rattle.std.specs.List.{IsDistinct, filter}
+use Rattle.std.specs.List.{filter}
 use Rattle.std.specs.Map.{keys_of}
 use Rattle.hv_cache.specs.Kept.{rests_on}
-use Rattle.hv_cache.specs.Holding.{Entry, same}
+use Rattle.hv_cache.specs.Holding.{Entry}
 use Rattle.hv_cache.proofs.entries.Entries.resting_on.Given as goal
 
 abbrev pub invariant-loop-key : goal.invariant-loop-key

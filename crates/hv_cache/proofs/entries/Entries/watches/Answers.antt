@@ -1,6 +1,5 @@
 -- A page is named where an entry rests on it.
-use Rattle.std.proofs.Common.{◌≡◌, ◌==◌, not, ℕ, ap, ◌∙◌}
-use Rattle.hv_cache.specs.Holding.{Holding, any_rests_on}
+use Rattle.std.proofs.Common.{◌==◌, not, ℕ, ap, ◌∙◌}
 use Rattle.hv_cache.proofs.Totals.{named_rests}
 use Rattle.hv_cache.proofs.entries.Entries.watches.Goals as goal
 

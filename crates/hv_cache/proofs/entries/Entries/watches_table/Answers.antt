@@ -1,5 +1,5 @@
 -- A page is named among tables where an entry has it among its tables.
-use Rattle.std.proofs.Common.{◌≡◌, ◌==◌, not, ℕ, ap, ◌∙◌}
+use Rattle.std.proofs.Common.{◌==◌, not, ℕ, ap, ◌∙◌}
 use Rattle.hv_cache.proofs.Totals.{named_tables}
 use Rattle.hv_cache.proofs.entries.Entries.watches_table.Goals as goal
 

@@ -1,5 +1,4 @@
 -- The block of each machine is added in turn.
-use Rattle.std.proofs.Common.{◌≡◌, ◌∙◌, sym, ap, ◌++◌, ◌∷◌, []}
 use Rattle.hv_cache.proofs.Occurring.{blocks_more}
 use Rattle.hv_cache.proofs.kept.Kept.new.Goals as goal
 

@@ -1,6 +1,6 @@
 -- Blocks and tables are counted in turn.
-use Rattle.std.proofs.Common.{ℕ, ◌+◌, ◌<◌, arith}
-use Rattle.hv_cache.specs.Counting.{Adds, HasRoom, pages_named, tables_named}
+use Rattle.std.proofs.Common.{arith}
+use Rattle.hv_cache.specs.Counting.{pages_named, tables_named}
 use Rattle.hv_cache.proofs.tally.Tally.add.Goals as goal
 
 pub add-requires-clause-room : goal.add-requires-clause-room

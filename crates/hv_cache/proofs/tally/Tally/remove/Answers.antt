@@ -1,6 +1,6 @@
 -- Blocks and tables are taken off in turn.
-use Rattle.std.proofs.Common.{ℕ, ◌+◌, ◌≤◌, arith}
-use Rattle.hv_cache.specs.Counting.{Adds, Covers, pages_named, tables_named}
+use Rattle.std.proofs.Common.{arith}
+use Rattle.hv_cache.specs.Counting.{pages_named, tables_named}
 use Rattle.hv_cache.proofs.tally.Tally.remove.Goals as goal
 
 pub remove-requires : goal.remove-requires

@@ -1,4 +1,5 @@
 pub mod Descending
+pub mod Dropping
 mod Erasing
 pub mod Follows
 pub mod Growing

@@ -1,10 +1,8 @@
 -- What is dropped after words changed, and that what is left rests on none of them.
-use Rattle.std.proofs.Common.{◌≡◌, ◌≢◌, ◌⊎◌, ℕ, zero, suc, ◌+◌, ◌*◌, ◌/◌, ◌%◌, ◌<◌, ◌≤◌, inl, inr, Bool, true, false, not, ◌||◌, cond, List, [], ◌∷◌, ◌++◌, length, take, get_or, Option, Some, None, is_some, refl, ap, ◌∙◌, sym, subst, arith, lit<, slice_get}
-use Rattle.std.specs.Prelude.{◌==◌, All, slice_index, slice_set}
-use Rattle.std.specs.List.{AllByRecursion, filter, flat_map, list_any, range_with_len}
-use Rattle.std.proofs.lemmas.Bool.{cases_lt, eq-eqb, eqb-false, eqb-true, or_parts}
-use Rattle.std.proofs.lemmas.Bool.Decides.{eqb_tells}
-use Rattle.std.proofs.lemmas.List.{get_or_past, take_more}
+use Rattle.std.proofs.Common.{◌≡◌, ◌⊎◌, ℕ, ◌/◌, ◌%◌, inl, inr, Bool, true, false, not, cond, List, [], ◌∷◌, ◌++◌, length, Option, Some, None, is_some, refl, ap, ◌∙◌, sym, subst}
+use Rattle.std.specs.Prelude.{All}
+use Rattle.std.specs.List.{AllByRecursion, filter}
+use Rattle.std.proofs.lemmas.Bool.{or_parts}
 use Rattle.hv_word.specs.Words.{has}
 use Rattle.std.specs.Option.{option_map}
 use Rattle.hv_block.specs.declared.Block.{Block}
@@ -13,11 +11,9 @@ use Rattle.hv_block.specs.Contents.{contents_of}
 use Rattle.hv_block.proofs.Blocks.{block_holds}
 use Rattle.hv_cache.specs.Holding.{Entry, any_has_table, any_rests_on, without_page}
 use Rattle.hv_cache.specs.Kept.{rests_on}
-use Rattle.hv_map.specs.Held.{IsHeld, IsPin, SameNexts, SamePage, SamePages, SaysItem, SaysItems}
-use Rattle.hv_nest.specs.Changes.{difference_at, differences, differences_to}
 use Rattle.hv_nest.specs.declared.changed.ChangedRow.{ChangedRow}
-use Rattle.hv_fast.specs.Beside.{EntriesAreRight, EntryIsRight, IsBlockStill, IsReady, IsRightBeside, IsSpared, SamePins, WordIsSpared}
-use Rattle.hv_fast.specs.Marked.{BlocksIn, Marked, has_mark, listed}
+use Rattle.hv_fast.specs.Beside.{EntriesAreRight, EntryIsRight, IsBlockStill, IsSpared, SamePins, WordIsSpared}
+use Rattle.hv_fast.specs.Marked.{Marked, has_mark}
 use Rattle.hv_fast.specs.declared.beside.Beside.{Beside}
 use Rattle.hv_fast.specs.declared.pin.Pin.{Pin}
 
@@ -149,91 +145,3 @@ dropped_more T rows more row b c d longer before one =
 pub still_unless : (b : Bool) → not b ≡ false → b ≡ true
 still_unless true e = refl
 still_unless false e = absurd (let f : true ≡ false = e in cc)
-
--- What is true of the places of all rows is true of each place where the words differ.
-each_place : (P : ℕ → Type 0) (S T ks : List ℕ) (a : ℕ)
-    → AllByRecursion (λ (row : ChangedRow). P row.at) (flat_map (difference_at S T) ks)
-    → has a ks ≡ true
-    → slice_index S a ≢ slice_index T a
-    → P a
-each_place P S T [] a all there differ = absurd (let f : false ≡ true = there in cc)
-each_place P S T (k ∷ ks) a all there differ =
-    go (slice_index S k == slice_index T k) refl (a == k) refl all there (each_place P S T ks a)
-  where
-    rows_with : Bool → List ChangedRow
-    rows_with b = cond b [] (record { at = k; value = slice_index T k } ∷ []) ++ flat_map (difference_at S T) ks
-
-    go : (b : Bool) → (slice_index S k == slice_index T k) ≡ b
-        → (c : Bool) → (a == k) ≡ c
-        → AllByRecursion (λ (row : ChangedRow). P row.at) (rows_with b)
-        → (c || has a ks) ≡ true
-        → (AllByRecursion (λ (row : ChangedRow). P row.at) (flat_map (difference_at S T) ks) → has a ks ≡ true → slice_index S a ≢ slice_index T a → P a)
-        → P a
-    go true same true here all there rest =
-        absurd (differ (subst (λ (n : ℕ). slice_index S n ≡ slice_index T n) (sym (eqb-true a k here)) (eqb-true (slice_index S k) (slice_index T k) same)))
-    go true same false apart all there rest = rest all there differ
-    go false other true here all there rest = subst P (sym (eqb-true a k here)) all.0
-    go false other false apart all there rest = rest all.1 there differ
-
-in_range : (n b a : ℕ) → b ≤ a → a < b + n → has a (range_with_len b n) ≡ true
-in_range zero b a low high = absurd (omega arith)
-in_range (suc n) b a low high = elim (eqb_tells a b) [
-  | inl agree ↦ ap (λ (x : Bool). x || has a (range_with_len (b + 1) n)) agree.0
-  | inr differ ↦
-      ap (λ (x : Bool). x || has a (range_with_len (b + 1) n)) differ.0
-      ∙ in_range n (b + 1) a (omega (arith, differ.1)) (omega arith)
-]
-
-each_change : (P : ℕ → Type 0) (S T : List ℕ) (a : ℕ)
-    → AllByRecursion (λ (row : ChangedRow). P row.at) (differences S T)
-    → length S ≡ length T
-    → slice_index S a ≢ slice_index T a
-    → P a
-unfolding differences_to
-each_change P S T a all long differ = each_place P S T (range_with_len 0 (length S)) a all (in_range (length S) 0 a (omega arith) inside) differ
-  where
-    inside : a < 0 + length S
-    inside = elim (cases_lt a (length S)) [
-      | inl lt ↦ omega (arith, lt)
-      | inr le ↦ absurd (differ (get_or_past S a 0 le ∙ sym (get_or_past T a 0 (omega (arith, le, long)))))
-    ]
-
--- a word is the same where no row can be at its place
-same_unless : (P : ℕ → Type 0) (S T : List ℕ) (a : ℕ)
-    → AllByRecursion (λ (row : ChangedRow). P row.at) (differences S T)
-    → length S ≡ length T
-    → (P a → ⊥)
-    → slice_index S a ≡ slice_index T a
-same_unless P S T a all long never = elim (eqb_tells (slice_index S a) (slice_index T a)) [
-  | inl alike ↦ alike.1
-  | inr apart ↦ absurd (never (each_change P S T a all long apart.1))
-]
-
--- a page in which no row is
-page_unless : (S T : List ℕ) (g : ℕ)
-    → AllByRecursion (λ (row : ChangedRow). row.at / 1024 ≢ g) (differences S T)
-    → length S ≡ length T
-    → SamePage S T g
-page_unless S T g none long k lt =
-    same_unless (λ a. a / 1024 ≢ g) S T (1024 * g + k) none long (λ ne. ne (omega (arith, lt)))
-
-or_right : (a b : Bool) → b ≡ true → (a || b) ≡ true
-or_right true b e = refl
-or_right false b e = e
-
--- pages that no row is in
-pages_unless : (P : ℕ → Bool) (S T gs : List ℕ)
-    → AllByRecursion (λ (row : ChangedRow). P (row.at / 1024) ≡ false) (differences S T)
-    → length S ≡ length T
-    → ((g : ℕ) → has g gs ≡ true → P g ≡ true)
-    → SamePages S T gs
-pages_unless P S T [] none long all = tt
-pages_unless P S T (g ∷ gs) none long all = (
-  λ k lt.
-      same_unless (λ a. P (a / 1024) ≡ false) S T (1024 * g + k) none long
-      (λ off.
-      let page : (1024 * g + k) / 1024 ≡ g = omega (arith, lt) in
-      let f : false ≡ true = sym off ∙ ap P page ∙ all g (ap (λ (b : Bool). b || has g gs) (eq-eqb g g refl)) in
-      cc),
-  pages_unless P S T gs none long (λ h there. all h (or_right (h == g) (has h gs) there)),
-)

@@ -6,6 +6,7 @@ pub mod Growing
 pub mod Opening
 mod Putting
 pub mod Remembering
+pub mod Resting
 pub mod Saying
 pub mod Sparing
 pub mod Staying

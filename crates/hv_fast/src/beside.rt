@@ -13,7 +13,7 @@ ghost use Rattle.hv_nest.specs.Kinds.{NextBelow};
 ghost use Rattle.hv_nest.specs.Step.{Worked, host_step_of};
 ghost use Rattle.hv_map.specs.Held.{Lists};
 ghost use Rattle.hv_cache.specs.Holding.{without_page};
-ghost use Rattle.hv_fast.specs.Beside.{IsBlockStill, IsRightBeside, IsSpared, NoPins, SameButMarks, WordIsSpared};
+ghost use Rattle.hv_fast.specs.Beside.{IsBlockStill, IsRightBeside, IsSpared, IsUnpinned, NoPins, SameButMarks, WordIsSpared};
 ghost use Rattle.hv_fast.specs.Marked.{BlocksIn, IsMore, listed};
 
 use crate::following::follow;
@@ -254,12 +254,21 @@ impl Beside {
             → changed.now ≡ differences S store.now → IsRightBeside store.now (slice_set R hart r) self.new }
         ensures count { length self.new.pins.items ≡ length self.old.pins.items }
     {
+        self.unpin(hart);
+        for row in changed.as_slice() {
+            self.spare(store, row.at);
+        }
+    }
+
+    // Drops the pin of a hart.
+    #[inline(always)]
+    fn unpin(&mut self, hart: u32)
+        requires hart { hart < length self.old.pins.items }
+        ensures { IsUnpinned hart self.old self.new }
+    {
         self.pins[hart as usize].live = false;
         if self.rider == Some(hart) {
             self.rider = None;
-        }
-        for row in changed.as_slice() {
-            self.spare(store, row.at);
         }
     }
 

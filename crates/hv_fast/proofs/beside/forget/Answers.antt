@@ -1,6 +1,6 @@
-use Rattle.std.proofs.Common.{◌≡◌, true, false, ◌/◌, ◌%◌, not, ap, ◌∙◌, sym, subst}
+use Rattle.std.proofs.Common.{◌≡◌, true, false, ◌∙◌, sym, subst}
 use Rattle.std.specs.List.{AllByRecursion}
-use Rattle.hv_cache.specs.Holding.{Entry, Holding}
+use Rattle.hv_cache.specs.Holding.{Holding}
 use Rattle.hv_fast.specs.Beside.{IsSpared}
 use Rattle.hv_fast.proofs.Dropping.{still_unless, spared_unwatched, spared_still, spared_forgotten}
 use Rattle.hv_fast.proofs.beside.forget.Goals as goal

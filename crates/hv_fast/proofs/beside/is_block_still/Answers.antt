@@ -1,4 +1,4 @@
-use Rattle.std.proofs.Common.{◌≡◌, ◌≢◌, ℕ, true, false, ◌&&◌, ap, ◌∙◌, sym, not, is_le, is_lt, nat_cmp}
+use Rattle.std.proofs.Common.{◌≡◌, ℕ, true, false, ◌&&◌, ap, ◌∙◌, sym, not, is_le, is_lt, nat_cmp}
 use Rattle.hv_fast.specs.Beside.{IsBlockStill}
 use Rattle.hv_fast.proofs.Dropping.{block_read}
 use Rattle.hv_fast.proofs.beside.is_block_still.Goals as goal

@@ -351,3 +351,19 @@ pub all_right : (S T : List ℕ) (R : List Regs) (h : ℕ) (r : Regs) (a b c : B
     → IsRightBeside T (slice_set R h r) c
 all_right S T R h r a b c rows changed is gone dropped right long all =
     after_right S T R h r a b c right gone long (subst (λ (rs : List ChangedRow). Dropped T rs b c) (is ∙ all) dropped)
+
+-- where no pin is in use and no translation is held, everything is right
+pub idle_right : (b : Beside) (n : ℕ)
+    → length b.pins.items ≡ n
+    → All (λ (p : Pin). p.live ≡ false) b.pins.items
+    → b.rider ≡ None
+    → b.cache.entries ≡ []
+    → (S : List ℕ) (R : List Regs)
+    → length R ≡ n
+    → IsRightBeside S R b
+idle_right b n many dead none empty S R long = record {
+  count = many ∙ sym long;
+  pins = λ k q p has_regs there live. absurd (none_live b.pins.items k p dead there live);
+  rider = λ k p rides there. absurd (let f : None ≡ Some k = sym none ∙ rides in cc);
+  held = subst (λ (es : List Entry). EntriesAreRight S b.ids es) (sym empty) tt;
+}

@@ -352,7 +352,21 @@ pub all_right : (S T : List ℕ) (R : List Regs) (h : ℕ) (r : Regs) (a b c : B
 all_right S T R h r a b c rows changed is gone dropped right long all =
     after_right S T R h r a b c right gone long (subst (λ (rs : List ChangedRow). Dropped T rs b c) (is ∙ all) dropped)
 
--- where no pin is in use and no translation is held, everything is right
+-- where no pin is in use, everything is right if each held translation is
+pub unpinned_right : (S : List ℕ) (R : List Regs) (b : Beside)
+    → length b.pins.items ≡ length R
+    → All (λ (p : Pin). p.live ≡ false) b.pins.items
+    → b.rider ≡ None
+    → EntriesAreRight S b.ids b.cache.entries
+    → IsRightBeside S R b
+unpinned_right S R b count dead none held = record {
+  count = count;
+  pins = λ k q p has_regs there live. absurd (none_live b.pins.items k p dead there live);
+  rider = λ k p rides there. absurd (let f : None ≡ Some k = sym none ∙ rides in cc);
+  held = held;
+}
+
+-- and so it is where none is held
 pub idle_right : (b : Beside) (n : ℕ)
     → length b.pins.items ≡ n
     → All (λ (p : Pin). p.live ≡ false) b.pins.items
@@ -361,9 +375,5 @@ pub idle_right : (b : Beside) (n : ℕ)
     → (S : List ℕ) (R : List Regs)
     → length R ≡ n
     → IsRightBeside S R b
-idle_right b n many dead none empty S R long = record {
-  count = many ∙ sym long;
-  pins = λ k q p has_regs there live. absurd (none_live b.pins.items k p dead there live);
-  rider = λ k p rides there. absurd (let f : None ≡ Some k = sym none ∙ rides in cc);
-  held = subst (λ (es : List Entry). EntriesAreRight S b.ids es) (sym empty) tt;
-}
+idle_right b n many dead none empty S R long =
+    unpinned_right S R b (many ∙ sym long) dead none (subst (λ (es : List Entry). EntriesAreRight S b.ids es) (sym empty) tt)

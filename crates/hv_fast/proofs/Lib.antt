@@ -1,4 +1,5 @@
 pub mod Descending
+pub mod Dropping
 mod Erasing
 pub mod Follows
 pub mod Growing
@@ -7,6 +8,7 @@ pub mod Mounting
 pub mod Opening
 mod Putting
 pub mod Remembering
+pub mod Resting
 pub mod Riders
 pub mod Saying
 pub mod Sparing

@@ -1,5 +1,5 @@
 -- What is kept beside the state of the bare machine, and when it is right.
-use Rattle.std.specs.Prelude.{◌≡◌, ◌≢◌, ◌⊎◌, ℕ, ◌/◌, ◌%◌, true, false, All, List, [], length, None, Some, slice_get}
+use Rattle.std.specs.Prelude.{◌≡◌, ◌≢◌, ◌⊎◌, ℕ, ◌/◌, ◌%◌, true, false, All, List, [], length, None, Some, IfSome, slice_get}
 use Rattle.std.specs.List.{AllByRecursion}
 use Rattle.hv_cpu.specs.Regs.{Regs}
 use Rattle.hv_block.specs.Block.{is_block, regs_at}
@@ -61,6 +61,17 @@ pub record NoPins (b c : Beside) : Type 0 where
   pub rider : c.rider ≡ None
   pub ids : c.ids ≡ b.ids
   pub cache : c.cache ≡ b.cache
+
+-- the pin of hart h isn't in use; what is kept for the others is as before
+pub record IsUnpinned (h : ℕ) (b c : Beside) : Type 0 where
+  pub count : length c.pins.items ≡ length b.pins.items
+  pub own : IfSome (slice_get c.pins.items h) (λ (p : Pin). p.live ≡ false)
+  pub others : (k : ℕ) → k ≢ h → slice_get c.pins.items k ≡ slice_get b.pins.items k
+  pub marks : c.marks ≡ b.marks
+  pub rider : (c.rider ≡ None) ⊎ ((c.rider ≡ b.rider) × (c.rider ≢ Some h))
+  pub ids : c.ids ≡ b.ids
+  pub cache : c.cache ≡ b.cache
+  pub inner : c.inner ≡ b.inner
 
 -- word k of a page isn't one by which a block says what its machine is, and there is a well-formed block in the page
 pub record IsBlockStill (T : List ℕ) (g k : ℕ) : Type 0 where

@@ -1,6 +1,7 @@
 //! What is kept beside the state: pins, marks on what they rest on, held translations.
 
-ghost use Rattle.std.specs.Prelude.{◌≡◌, ◌<◌, ℕ, List, None, true, IfOk, IfNone, IfSome, Some, length, slice_get, slice_set};
+ghost use Rattle.std.specs.Prelude.{◌≡◌, ◌<◌, ◌/◌, ◌⊎◌, ℕ, List, None, true, IfOk, IfNone, IfSome, Some, length, slice_get, slice_set};
+ghost use Rattle.std.specs.List.{AllByRecursion};
 ghost use Rattle.hv_word.specs.Storage.{page_count};
 ghost use Rattle.hv_cpu.specs.Regs.{Regs};
 ghost use Rattle.hv_csr.specs.Interrupts.{pending_of};
@@ -10,7 +11,8 @@ ghost use Rattle.hv_map.specs.Chain.{running_path};
 ghost use Rattle.hv_nest.specs.Changes.{differences};
 ghost use Rattle.hv_nest.specs.Kinds.{NextBelow};
 ghost use Rattle.hv_nest.specs.Step.{Worked, host_step_of};
-ghost use Rattle.hv_fast.specs.Beside.{IsBlockStill, IsRightBeside, NoPins, WordIsSpared};
+ghost use Rattle.hv_cache.specs.Holding.{without_page};
+ghost use Rattle.hv_fast.specs.Beside.{IsBlockStill, IsRightBeside, IsSpared, IsUnpinned, NoPins, WordIsSpared};
 
 use crate::following::follow;
 use crate::marks::Marks;
@@ -151,7 +153,11 @@ impl Beside {
     {
         let pin = &self.pins[hart as usize];
         let inner = &self.inner;
-        if !pin.live || inner.next.is_some() || pending(inner).is_some() || pin.block >= store.pages() {
+        if !pin.live
+            || inner.next.is_some()
+            || pending(inner).is_some()
+            || pin.block >= store.pages()
+        {
             return None;
         }
         let mut notes = Notes::new();
@@ -231,12 +237,21 @@ impl Beside {
             → changed.now ≡ differences S store.now → IsRightBeside store.now (slice_set R hart r) self.new }
         ensures count { length self.new.pins.items ≡ length self.old.pins.items }
     {
+        self.unpin(hart);
+        for row in changed.as_slice() {
+            self.spare(store, row.at);
+        }
+    }
+
+    // Drops the pin of a hart.
+    #[inline(always)]
+    fn unpin(&mut self, hart: u32)
+        requires hart { hart < length self.old.pins.items }
+        ensures { IsUnpinned hart self.old self.new }
+    {
         self.pins[hart as usize].live = false;
         if self.rider == Some(hart) {
             self.rider = None;
-        }
-        for row in changed.as_slice() {
-            self.spare(store, row.at);
         }
     }
 
@@ -244,15 +259,10 @@ impl Beside {
     fn spare(&mut self, store: &Store, at: u32)
         ensures dropped { WordIsSpared store.now at self.old self.new }
     {
-        let page = at / 1024;
-        if self.marks.has_mark(page) {
+        if self.marks.has_mark(at / 1024) {
             self.drop_pins();
         }
-        if self.cache.watched(page)
-            && (self.cache.table_watched(page) || !is_block_still(store, page, at % 1024))
-        {
-            self.cache.forget_page(page);
-        }
+        forget(&mut self.cache, store, at);
     }
 
     /// Drops all pins.
@@ -265,6 +275,19 @@ impl Beside {
         for pin in self.pins.iter_mut() {
             pin.live = false;
         }
+    }
+}
+
+// Drops the translations that rest on a word that changed.
+fn forget(cache: &mut MapCache, store: &Store, at: u32)
+    ensures spared { AllByRecursion (IsSpared store.now at) cache.new.entries }
+    ensures fewer { (cache.new.entries ≡ cache.old.entries) ⊎ (cache.new.entries ≡ without_page (at / 1024) cache.old.entries) }
+{
+    let page = at / 1024;
+    if cache.watched(page)
+        && (cache.table_watched(page) || !is_block_still(store, page, at % 1024))
+    {
+        cache.forget_page(page);
     }
 }
 

@@ -162,7 +162,11 @@ impl Beside {
         ensures count { length self.new.pins.items ≡ length self.old.pins.items }
     {
         let pin = &self.pins[hart as usize];
-        if !pin.live || self.inner.next.is_some() || pending(&self.inner).is_some() || pin.block >= store.pages() {
+        if !pin.live
+            || self.inner.next.is_some()
+            || pending(&self.inner).is_some()
+            || pin.block >= store.pages()
+        {
             return None;
         }
         let mut notes = Notes::new();

@@ -9,7 +9,7 @@ ghost use Rattle.hv_fast.specs.Beside.{EntriesAreRight};
 ghost use Rattle.hv_fast.specs.Holds.{is_held, pages_for};
 
 use hv_cache::MapCache;
-use hv_map::{Path, Pages, Slot, pin_noting, resolve_noting};
+use hv_map::{Pages, Path, Slot, pin_noting, resolve_noting};
 use hv_store::{Steps, Store};
 use hv_vmid::{IdEnd, Ids};
 use std::sync::ledger::Ledger;
@@ -81,15 +81,13 @@ pub(crate) fn translate<L: Ledger>(
 }
 
 // The slot of a page of the machine on a path, if that is held.
-fn look(ids: &Ids, cache: &mut MapCache, path: &Path, page: u32) -> Option<Slot>
-{
+fn look(ids: &Ids, cache: &mut MapCache, path: &Path, page: u32) -> Option<Slot> {
     cache.look(ids.find(path)?, page)
 }
 
 // The number of a path, which is given here where it has none. Where too many paths have numbers, they are taken from all, and
 // what was held by them is forgotten. There is none where memory is wanting.
-fn number(ids: &mut Ids, cache: &mut MapCache, path: &Path) -> Option<u32>
-{
+fn number(ids: &mut Ids, cache: &mut MapCache, path: &Path) -> Option<u32> {
     match given(ids, path) {
         Ok(number) => number,
         Err(IdEnd::Memory) => None,
@@ -102,8 +100,7 @@ fn number(ids: &mut Ids, cache: &mut MapCache, path: &Path) -> Option<u32>
 }
 
 // The same, where all numbers that were given stay.
-fn given(ids: &mut Ids, path: &Path) -> Result<Option<u32>, IdEnd>
-{
+fn given(ids: &mut Ids, path: &Path) -> Result<Option<u32>, IdEnd> {
     let mut number = None;
     for syllable in path.as_slice() {
         number = Some(ids.child_id(number, *syllable)?);

@@ -1,7 +1,6 @@
 -- Putting registers where others stand, with notes.
-use Rattle.std.proofs.Common.{◌≡◌, ◌≢◌, ℕ, zero, suc, ◌+◌, ◌*◌, ◌<◌, ◌≤◌, Bool, true, false, cond, not, List, [], ◌∷◌, ◌++◌, length, drop, set, get_or, refl, ap, ◌∙◌, sym, arith}
-use Rattle.std.specs.Prelude.{◌==◌, nat_eq}
-use Rattle.std.specs.Cmp.Lexicographic.{pointwise, same_text}
+use Rattle.std.proofs.Common.{◌≡◌, ◌≢◌, ℕ, zero, suc, ◌+◌, ◌*◌, ◌<◌, ◌≤◌, Bool, true, false, cond, List, [], ◌∷◌, ◌++◌, length, drop, set, get_or, refl, ap, ◌∙◌, sym, arith}
+use Rattle.std.specs.Prelude.{◌==◌}
 use Rattle.std.proofs.Math.Seq.{sets, drop-cons}
 use Rattle.std.proofs.lemmas.List.{get_or-set_other, set-get_or}
 use Rattle.std.proofs.lemmas.Bool.{eqb-true, ne_eqb}
@@ -12,14 +11,6 @@ use Rattle.hv_exec.specs.Changes.{changed_regs, differing}
 use Rattle.hv_nest.specs.Noted.{control_of}
 use Rattle.hv_nest.specs.Notes.{StandsAt}
 use Rattle.hv_nest.proofs.Puts.{block_changes, differing_nil}
-
--- two rows that aren't found to be different are the same
-pub same_row : (xs ys : List ℕ) (r : Bool) → r ≡ not (pointwise nat_eq xs ys) → r ≡ false → xs ≡ ys
-same_row xs ys r is found = same_text xs ys (by (pointwise nat_eq xs ys) (sym found ∙ is))
-  where
-    by : (b : Bool) → false ≡ not b → true ≡ b
-    by true e = refl
-    by false e = absurd (let f : false ≡ true = e in cc)
 
 -- words that stand there already
 pub sets_standing : (ws S : List ℕ) (i : ℕ) → StandsAt S i ws → sets S i ws ≡ S

@@ -263,9 +263,22 @@ fn put_row(store: &mut Store, notes: &mut Notes, at: u32, before: &[u32], words:
     ensures origin { undone store.new notes.new ≡ undone store.old notes.old }
     ensures count { length notes.new ≤ length notes.old + differing (drop at (undone store.old notes.old)) words.now }
 {
-    if before != words {
+    if !is_same(before, words) {
         put_each(store, notes, at, before, words);
     }
+}
+
+// Whether two rows of one length are the same, found without a branch for each word.
+#[inline(always)]
+fn is_same(before: &[u32], words: &[u32]) -> bool
+    requires { length before.now ≡ length words.now }
+    ensures { result ≡ true → before.now ≡ words.now }
+{
+    let mut same = true;
+    for i in 0..words.len() {
+        same &= before[i] == words[i];
+    }
+    same
 }
 
 // The same one by one.

@@ -84,4 +84,6 @@ opens_at (Some slot) a g = leads_to g (way_for slot a)
 abbrev pub AreOpen : List ℕ → List Item → Entries → Type 0
 AreOpen S items m =
     (a : Access)
-    → All (λ (e : Entry). e.page ≢ nothing → opens_at (slice_get (map_along S items) e.page) a e.host ≡ true) (entries_for m a)
+    → All
+    (λ (e : Entry). e.page ≢ nothing → opens_at (slice_get (map_along S items) e.page) a e.host ≡ true)
+    (entries_for m a)

@@ -1,7 +1,7 @@
 //! One instruction of the machine at the end of a pinned path, by translations at hand.
 
 ghost use Rattle.std.specs.Prelude.{◌≡◌, ◌≢◌, ◌<◌, ◌≤◌, [], true, false, OnErr, Some, length};
-ghost use Rattle.hv_word.specs.Words.{IsLane, lane_with};
+ghost use Rattle.hv_word.specs.Words.{IsLane, has, lane_with};
 ghost use Rattle.hv_word.specs.Storage.{page_count, with_word, word_at};
 ghost use Rattle.hv_cpu.specs.Regs.{FitsHart};
 ghost use Rattle.hv_block.specs.Block.{pages_at, regs_at};
@@ -19,7 +19,7 @@ use hv_cache::MapCache;
 use hv_cpu::Cpu;
 use hv_exec::act;
 use hv_map::{Chain, View, page_slot};
-use hv_nest::{Notes, put_cpu, put_fault};
+use hv_nest::{Notes, put_changed, put_fault};
 use hv_store::{Access, Refusal, Space, Store, Way};
 use hv_word::{Lane, lane_put};
 
@@ -150,6 +150,7 @@ pub(crate) fn ride(
     requires fresh { notes.old ≡ [] }
     requires memo { Opens store.old chain.now memo.now }
     requires there { block < page_count store.old }
+    requires marked { has block marks.now.blocks ≡ true }
     requires cpu { regs_at store.old block ≡ cpu.old }
     requires next { cpu.old.next ≡ 0 }
     requires pages { length (map_along store.old chain.now) ≡ pages_at store.old block }
@@ -172,7 +173,7 @@ pub(crate) fn ride(
         return false;
     }
     fits(cpu);
-    put_cpu(store, notes, block, cpu);
+    put_changed(store, notes, block, &before, cpu);
     true
 }
 

@@ -1,5 +1,6 @@
 pub mod AtHart
 pub mod Causes
+pub mod Changing
 pub mod Counts
 pub mod Follows
 pub mod Frames

@@ -10,7 +10,7 @@ use Rattle.hv_block.proofs.Edits.{sets_more, length-sets_lem}
 use Rattle.hv_exec.specs.Changes.{differing, changed_regs}
 use Rattle.hv_nest.proofs.Undone.{length-undone}
 
-differing_nil : (xs : List ℕ) → differing xs [] ≡ 0
+pub differing_nil : (xs : List ℕ) → differing xs [] ≡ 0
 unfolding differing
 differing_nil [] = refl
 differing_nil (x ∷ xs) = refl

@@ -1,6 +1,6 @@
 -- What the notes of a step say of it.
-use Rattle.std.specs.Prelude.{◌≡◌, ℕ, ◌+◌, ◌≤◌, List, [], length}
-use Rattle.hv_cpu.specs.Regs.{Regs}
+use Rattle.std.specs.Prelude.{◌≡◌, ℕ, ◌+◌, ◌≤◌, List, [], length, drop, take}
+use Rattle.hv_cpu.specs.Regs.{Regs, spelled}
 use Rattle.hv_exec.specs.Changes.{changed_regs}
 use Rattle.hv_nest.specs.declared.notes.Note.{Note}
 use Rattle.hv_nest.specs.Notes.{undone}
@@ -17,3 +17,7 @@ pub record NothingDone (S T : List ℕ) (r q : Regs) (notes : List Note) : Type 
   pub storage : T ≡ S
   pub cpu : q ≡ r
   pub none : notes ≡ []
+
+-- the mode and the control registers, in the order of the words of a block
+abbrev pub control_of : Regs → List ℕ
+control_of r = take 17 (drop 32 (spelled r))

@@ -44,3 +44,7 @@ IsLeast S T notes i k (Some b) =
 abbrev pub noted_from : ℕ → List Note → ℕ
 noted_from i [] = 0
 noted_from i (n ∷ notes) = (if nat_le i n.at then 1 else 0) + noted_from i notes
+
+-- the words ws stand in S from place i on
+abbrev pub StandsAt : List ℕ → ℕ → List ℕ → Type 0
+StandsAt S i ws = (k : ℕ) → k < length ws → slice_index S (i + k) ≡ slice_index ws k

@@ -1,11 +1,13 @@
 //! What a step writes, with notes of what it changes.
 
-ghost use Rattle.std.specs.Prelude.{◌≡◌, ◌+◌, ◌<◌, ◌≤◌, [], true, length, drop};
+ghost use Rattle.std.specs.Prelude.{◌≡◌, ◌≢◌, ◌+◌, ◌<◌, ◌≤◌, [], true, length, drop, slice_index, slice_set};
 ghost use Rattle.std.proofs.Math.Seq.{sets};
 ghost use Rattle.hv_word.specs.Storage.{page_count};
+ghost use Rattle.hv_cpu.specs.Regs.{file_of};
 ghost use Rattle.hv_block.specs.Block.{regs_at, put_regs, with_fault};
 ghost use Rattle.hv_exec.specs.Changes.{differing, changed_regs};
-ghost use Rattle.hv_nest.specs.Notes.{undone, is_exact};
+ghost use Rattle.hv_nest.specs.Notes.{undone, is_exact, StandsAt};
+ghost use Rattle.hv_nest.specs.Noted.{control_of};
 
 use crate::notes::Notes;
 use hv_block::block_word;
@@ -164,6 +166,136 @@ fn put_words(store: &mut Store, notes: &mut Notes, at: u32, words: &[u32])
     let mut place = at;
     for word in words {
         notes.put(store, place, *word);
+        place += 1;
+    }
+}
+
+/// The same where `before` are the registers in that block: what stays is neither read nor written.
+#[inline(always)]
+pub fn put_changed(store: &mut Store, notes: &mut Notes, page: u32, before: &Cpu, cpu: &Cpu)
+    requires page { page < page_count store.old }
+    requires before { regs_at store.old page ≡ before.now }
+    requires room { length notes.old + changed_regs (regs_at (undone store.old notes.old) page) cpu.now ≤ 8 }
+    ensures put { store.new ≡ put_regs store.old page cpu.now }
+    ensures origin { undone store.new notes.new ≡ undone store.old notes.old }
+    ensures count { length notes.new ≤ length notes.old + changed_regs (regs_at (undone store.old notes.old) page) cpu.now }
+{
+    let _pages = store.pages();
+    let at = 1024 * page;
+    put_over(store, notes, at, before.pc, cpu.pc);
+    put_row(store, notes, at + 1, file(before), file(cpu));
+    put_row(
+        store,
+        notes,
+        at + 32,
+        &control_words(before),
+        &control_words(cpu),
+    );
+    put_over(store, notes, at + 64, next_word(before), next_word(cpu));
+}
+
+// x1 to x31.
+#[inline(always)]
+fn file(cpu: &Cpu) -> &[u32]
+    ensures { result.now ≡ drop 1 (file_of cpu.now) }
+{
+    &cpu.x[1..]
+}
+
+// The mode and the control registers.
+#[inline(always)]
+fn control_words(cpu: &Cpu) -> [u32; 17]
+    ensures { result ≡ control_of cpu.now }
+{
+    [
+        cpu.mode.word(),
+        cpu.mstatus,
+        cpu.mtvec,
+        cpu.mepc,
+        cpu.mcause,
+        cpu.mtval,
+        cpu.mscratch,
+        cpu.medeleg,
+        cpu.mideleg,
+        cpu.mie,
+        cpu.mip,
+        cpu.stvec,
+        cpu.sepc,
+        cpu.scause,
+        cpu.stval,
+        cpu.sscratch,
+        cpu.satp,
+    ]
+}
+
+// The page of the machine that is to run, 0 for none.
+#[inline(always)]
+fn next_word(cpu: &Cpu) -> u32
+    ensures { result ≡ cpu.now.next }
+{
+    cpu.next.unwrap_or(0)
+}
+
+// Puts a word where `before` stands, and notes what it was where it changes for the first time.
+#[inline(always)]
+fn put_over(store: &mut Store, notes: &mut Notes, at: u32, before: u32, value: u32)
+    requires at { at < length store.old }
+    requires before { slice_index store.old at ≡ before }
+    requires room { slice_index (undone store.old notes.old) at ≢ value → length notes.old < 8 }
+    ensures put { store.new ≡ slice_set store.old at value }
+    ensures origin { undone store.new notes.new ≡ undone store.old notes.old }
+    ensures count { length notes.new ≤ length notes.old + 1 }
+    ensures kept { slice_index (undone store.old notes.old) at ≡ value → length notes.new ≡ length notes.old }
+{
+    if before != value {
+        notes.put(store, at, value);
+    }
+}
+
+// Puts words from a place of the storage on, where others stand, and notes what changes.
+#[inline(always)]
+fn put_row(store: &mut Store, notes: &mut Notes, at: u32, before: &[u32], words: &[u32])
+    requires inside { at + length words.now ≤ length store.old }
+    requires long { length before.now ≡ length words.now }
+    requires before { StandsAt store.old at before.now }
+    requires room { length notes.old + differing (drop at (undone store.old notes.old)) words.now ≤ 8 }
+    ensures put { store.new ≡ sets store.old at words.now }
+    ensures origin { undone store.new notes.new ≡ undone store.old notes.old }
+    ensures count { length notes.new ≤ length notes.old + differing (drop at (undone store.old notes.old)) words.now }
+{
+    if !is_same(before, words) {
+        put_each(store, notes, at, before, words);
+    }
+}
+
+// Whether two rows of one length are the same, found without a branch for each word.
+#[inline(always)]
+fn is_same(before: &[u32], words: &[u32]) -> bool
+    requires { length before.now ≡ length words.now }
+    ensures { result ≡ true → before.now ≡ words.now }
+{
+    let mut same = true;
+    for i in 0..words.len() {
+        same &= before[i] == words[i];
+    }
+    same
+}
+
+// The same one by one.
+#[tactic(auto, using(crate::proofs::Puts::puts))]
+fn put_each(store: &mut Store, notes: &mut Notes, at: u32, before: &[u32], words: &[u32])
+    requires inside { at + length words.now ≤ length store.old }
+    requires long { length before.now ≡ length words.now }
+    requires before { StandsAt store.old at before.now }
+    requires room { length notes.old + differing (drop at (undone store.old notes.old)) words.now ≤ 8 }
+    ensures put { store.new ≡ sets store.old at words.now }
+    ensures origin { undone store.new notes.new ≡ undone store.old notes.old }
+    ensures count { length notes.new ≤ length notes.old + differing (drop at (undone store.old notes.old)) words.now }
+{
+    let _pages = store.pages();
+    let mut place = at;
+    for i in 0..words.len() {
+        put_over(store, notes, place, before[i], words[i]);
         place += 1;
     }
 }

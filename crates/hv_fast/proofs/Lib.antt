@@ -2,6 +2,7 @@ pub mod Descending
 mod Erasing
 pub mod Follows
 pub mod Growing
+pub mod Keeping
 pub mod Opening
 mod Putting
 pub mod Remembering

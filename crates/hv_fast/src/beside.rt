@@ -169,7 +169,11 @@ impl Beside {
     {
         let pin = &self.pins[hart as usize];
         let inner = &self.inner;
-        if !pin.live || inner.next.is_some() || pending(inner).is_some() || pin.block >= store.pages() {
+        if !pin.live
+            || inner.next.is_some()
+            || pending(inner).is_some()
+            || pin.block >= store.pages()
+        {
             return None;
         }
         let mut notes = Notes::new();

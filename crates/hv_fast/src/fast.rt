@@ -66,7 +66,10 @@ impl Fast {
         ensures len { length self.new.state.storage ≡ length self.old.state.storage }
     {
         let cpu = self.harts.at(hart);
-        if cpu.next.is_none() || pending(cpu).is_some() || !self.beside.ready(&self.store, cpu, hart) {
+        if cpu.next.is_none()
+            || pending(cpu).is_some()
+            || !self.beside.ready(&self.store, cpu, hart)
+        {
             return None;
         }
         self.beside.ride(&mut self.store, hart)

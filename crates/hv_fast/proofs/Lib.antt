@@ -3,6 +3,7 @@ pub mod Dropping
 mod Erasing
 pub mod Follows
 pub mod Growing
+pub mod Keeping
 pub mod MarkingPaths
 pub mod Mounting
 pub mod Opening

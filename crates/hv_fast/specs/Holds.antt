@@ -25,3 +25,7 @@ is_held paths es path page =
 -- the pages that are read to find the machines on a path, and then a page of the last of them
 abbrev pub pages_for : List ℕ → List Item → ℕ → Listed
 pages_for S items page = with_pages (with_pages no_pages (pin_pages S items)) (pages_read (gathered_along S items) page)
+
+-- each path that has a number keeps it
+abbrev pub NumbersStay : List (List ℕ) → List (List ℕ) → Type 0
+NumbersStay paths more = (k : ℕ) (path : List ℕ) → slice_get paths k ≡ Some path → slice_get more k ≡ Some path

@@ -1,12 +1,13 @@
 //! Held translations: where a page of a machine lies, by the number of its path, with what that rests on.
 
-ghost use Rattle.std.specs.Prelude.{◌≡◌, ◌≢◌, ◌↔◌, ◌<◌, ◌≤◌, ◌+◌, ℕ, List, [], true, false, IfSome, OnOk, OnErr, Some, length, slice_get};
+ghost use Rattle.std.specs.Prelude.{◌≡◌, ◌≢◌, ◌↔◌, ◌<◌, ◌+◌, ℕ, List, [], true, false, IfOk, IfSome, MatchOption, Some, is_some, length, slice_get};
 ghost use Rattle.hv_limits.specs.Limits.{depth_limit};
+ghost use Rattle.hv_store.specs.declared.access.Slot.{Slot};
 ghost use Rattle.hv_map.specs.Chain.{map_along, pin_of};
 ghost use Rattle.hv_map.specs.Item.{Item};
 ghost use Rattle.hv_map.specs.Levels.{reads_bound};
 ghost use Rattle.hv_fast.specs.Beside.{EntriesAreRight};
-ghost use Rattle.hv_fast.specs.Holds.{is_held, pages_for};
+ghost use Rattle.hv_fast.specs.Holds.{NumbersStay, is_held, pages_for};
 
 use hv_cache::MapCache;
 use hv_map::{Pages, Path, Slot, pin_noting, resolve_noting};
@@ -74,6 +75,8 @@ pub(crate) fn translate<L: Ledger>(
             kept: Kept::Memory,
         };
     };
+    // The store has few enough pages for all that the entry rests on to be watched.
+    let _pages = store.pages();
     let kept = match cache.keep(number, page, slot, &chain, &tables) {
         Ok(()) => Kept::Held,
         Err(_) => Kept::Memory,
@@ -117,14 +120,25 @@ fn hold_by<L: Ledger>(
     translate(ids, cache, store, path, page, &mut steps)
 }
 
-// The slot of a page of the machine on a path, if that is held.
-fn look(ids: &Ids, cache: &mut MapCache, path: &Path, page: u32) -> Option<Slot> {
+// The slot of a page of the machine on a path, if that is held. It becomes the most recently used.
+fn look(ids: &Ids, cache: &mut MapCache, path: &Path, page: u32) -> Option<Slot>
+    ensures some { is_some result ≡ is_held ids.now cache.old.entries path.now page }
+    ensures slot { (S : List ℕ) (items : List Item) (slot : Slot) → EntriesAreRight S ids.now cache.old.entries
+        → pin_of S path.now ≡ Some items → result ≡ Some slot → slice_get (map_along S items) page ≡ Some slot }
+    ensures right { (S : List ℕ) → EntriesAreRight S ids.now cache.old.entries → EntriesAreRight S ids.now cache.new.entries }
+    ensures held { is_held ids.now cache.new.entries path.now page ≡ is_held ids.now cache.old.entries path.now page }
+{
     cache.look(ids.find(path)?, page)
 }
 
 // The number of a path, which is given here where it has none. Where too many paths have numbers, they are taken from all, and
 // what was held by them is forgotten. There is none where memory is wanting.
-fn number(ids: &mut Ids, cache: &mut MapCache, path: &Path) -> Option<u32> {
+fn number(ids: &mut Ids, cache: &mut MapCache, path: &Path) -> Option<u32>
+    ensures number { IfSome result (λ k. slice_get ids.new k ≡ Some path.now) }
+    ensures right { (S : List ℕ) → EntriesAreRight S ids.old cache.old.entries → EntriesAreRight S ids.new cache.new.entries }
+    ensures held { (S : List ℕ) (page : ℕ) → EntriesAreRight S ids.old cache.old.entries
+        → is_held ids.old cache.old.entries path.now page ≡ false → is_held ids.new cache.new.entries path.now page ≡ false }
+{
     match given(ids, path) {
         Ok(number) => number,
         Err(IdEnd::Memory) => None,
@@ -136,8 +150,11 @@ fn number(ids: &mut Ids, cache: &mut MapCache, path: &Path) -> Option<u32> {
     }
 }
 
-// The same, where all numbers that were given stay.
-fn given(ids: &mut Ids, path: &Path) -> Result<Option<u32>, IdEnd> {
+// The same, where all numbers that were given stay, and with the reason where there is none.
+fn given(ids: &mut Ids, path: &Path) -> Result<Option<u32>, IdEnd>
+    ensures number { IfOk result (λ number. MatchOption number (path.now ≡ []) (λ k. slice_get ids.new k ≡ Some path.now)) }
+    ensures stay { NumbersStay ids.old ids.new }
+{
     let mut number = None;
     for syllable in path.as_slice() {
         number = Some(ids.child_id(number, *syllable)?);

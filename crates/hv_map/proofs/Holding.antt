@@ -184,12 +184,12 @@ pin_right S r items p pin =
     (runs, ap (pin_of S) runs ∙ placed_pin S items p pin.placed)
 
 -- and what is found on a path is placed, where it is listed
-record Noticed (N : List Gathered) (u : ℕ) (s : Slot) : Type 0 where
-  gathered : Gathered
-  found : slice_get N u ≡ Some gathered
-  slot : gathered.slot ≡ s
+pub record Noticed (N : List Gathered) (u : ℕ) (s : Slot) : Type 0 where
+  pub gathered : Gathered
+  pub found : slice_get N u ≡ Some gathered
+  pub slot : gathered.slot ≡ s
 
-noticed : (N : List Gathered) (F : List Slot) (u : ℕ) (s : Slot) → slots_of N ≡ F → slice_get F u ≡ Some s → Noticed N u s
+pub noticed : (N : List Gathered) (F : List Slot) (u : ℕ) (s : Slot) → slots_of N ≡ F → slice_get F u ≡ Some s → Noticed N u s
 noticed N F u s is e =
     go (slice_get N u) refl (sym (slice_get-map (λ (n : Gathered). n.slot) N u) ∙ ap (λ (G : List Slot). slice_get G u) is ∙ e)
   where

@@ -13,6 +13,7 @@ pub mod Outwards
 pub mod Pins
 pub mod Rest
 pub mod Rows
+pub mod Reaching
 pub mod Running
 pub mod Slots
 pub mod Trails

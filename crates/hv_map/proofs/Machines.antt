@@ -31,10 +31,10 @@ machines-take S F j (s ∷ path) items (suc k) e =
     ∙ ap (λ (xs : List Item). Some (take (suc k) xs)) b.whole
 
 -- each open way of F opens a bare page below P
-abbrev OpensBelow : ℕ → List Slot → Type 0
+abbrev pub OpensBelow : ℕ → List Slot → Type 0
 OpensBelow P F = (y : ℕ) (s : Slot) (a : Access) (x : ℕ) → slice_get F y ≡ Some s → way_for s a ≡ Open x → x < P
 
-identity_below : (P : ℕ) → OpensBelow P (identity P)
+pub identity_below : (P : ℕ) → OpensBelow P (identity P)
 identity_below P y s a x is e = go a e
   where
     inside : y < P
@@ -48,7 +48,7 @@ identity_below P y s a x is e = go a e
     go Write h = let r : x ≡ y = (let f : Open y ≡ Open x = sym (ap (λ (t : Slot). t.write) same) ∙ h in cc) in omega (arith, inside)
     go Fetch h = let r : x ≡ y = (let f : Open y ≡ Open x = sym (ap (λ (t : Slot). t.fetch) same) ∙ h in cc) in omega (arith, inside)
 
-composed_below : (P : ℕ) (S : List ℕ) (F : List Slot) (j n t v : ℕ) → OpensBelow P F → OpensBelow P (compose S F j n t v)
+pub composed_below : (P : ℕ) (S : List ℕ) (F : List Slot) (j n t v : ℕ) → OpensBelow P F → OpensBelow P (compose S F j n t v)
 composed_below P S F j n t v below y s a x is e =
     let o = composed_opens F j S n t v y s a x is e in
     below o.0 o.1 a x o.2 o.3

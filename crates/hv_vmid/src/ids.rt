@@ -159,7 +159,8 @@ impl Ids {
 
     /// The number of a path, if it has one; that of the bare machine has none. It takes no memory.
     pub fn find(&self, path: &Path) -> Option<u32>
-        ensures { MatchOption result (IsNew self.now path.now) (λ k. slice_get self.now k ≡ Some path.now) }
+        ensures found { MatchOption result (IsNew self.now path.now) (λ k. slice_get self.now k ≡ Some path.now) }
+        ensures numbered { IsNumbered self.now }
     {
         if self.nodes.is_empty() {
             return None;

@@ -1,11 +1,13 @@
-use Rattle.std.proofs.Common.{◌≡◌, ◌≢◌, ◌↔◌, ◌<◌, ◌≤◌, ◌+◌, ℕ, List, [], true, false, IfSome, OnOk, OnErr, Some, length, slice_get, ◌-◌, ◌*◌}
-use Rattle.hv_limits.specs.Limits.{depth_limit}
-use Rattle.hv_map.specs.Chain.{map_along, pin_of}
-use Rattle.hv_map.specs.Item.{Item}
-use Rattle.hv_map.specs.Levels.{reads_bound}
-use Rattle.hv_fast.specs.Beside.{EntriesAreRight}
-use Rattle.hv_fast.specs.Holds.{is_held, pages_for}
+-- The syllables so far are the path at the number, and all numbers stayed.
+use Rattle.std.proofs.Common.{◌≡◌, length, take}
+use Rattle.hv_vmid.specs.Paths.{IsNumber, parent_path}
+use Rattle.hv_fast.specs.Holds.{NumbersStay}
 use Rattle.hv_fast.proofs.translations.given.Given as goal
 
 abbrev pub invariant-loop-syllable : goal.invariant-loop-syllable
-invariant-loop-syllable l = ?
+invariant-loop-syllable l =
+    record {
+      number : IsNumber (length l.ids) l.number;
+      path : parent_path l.ids l.number ≡ take l.syllable-index l.syllable-items;
+      stay : NumbersStay l.fn.ids l.ids;
+    }

@@ -8,8 +8,8 @@ use Rattle.hv_vmid.proofs.Numbering.{kept-length, kept-numbered}
 use Rattle.hv_vmid.proofs.Prefixes.{new-below, new-empty}
 use Rattle.hv_vmid.proofs.ids.Ids.find.Goals as goal
 
-pub returns-then-is_empty : goal.returns-then-is_empty
-returns-then-is_empty c = λ k at.
+pub returns-then-is_empty-clause-found : goal.returns-then-is_empty-clause-found
+returns-then-is_empty-clause-found c = λ k at.
     omega (
       arith,
       eqb-true _ 0 (sym c.is_empty.ensures ∙ c.if-is_empty.true),
@@ -24,8 +24,8 @@ stops paths xs path i id N same l so_far new =
     subst (IsNew paths) same
     (new-below paths N xs i l (subst (λ (p : List ℕ). IsNew paths (p ++ get_or xs i 0 ∷ [])) so_far new))
 
-pub returns-in_err-number : goal.returns-in_err-number
-returns-in_err-number c =
+pub returns-in_err-number-clause-found : goal.returns-in_err-number-clause-found
+returns-in_err-number-clause-found c =
     let new : IsNew c.args.self.now c.args.path.now =
     stops c.args.self.now c.as_slice-syllable-items.result.now c.args.path.now c.loop-syllable.syllable-index c.loop-syllable.id
     c.number.ensures.numbered c.as_slice-syllable-items.ensures.items c.loop-syllable-test.true c.loop-syllable.invariant.path c.in_err-number.ensures.found in
@@ -51,8 +51,18 @@ ends : (paths : List (List ℕ)) (xs path : List ℕ) (i : ℕ) (id : Option ℕ
 ends paths xs path i None N same l given so_far = new-empty paths N path (sym (so_far ∙ take_all i xs l ∙ same))
 ends paths xs path i (Some k) N same l given so_far = slice_get-get_or paths k [] given ∙ ap Some (so_far ∙ take_all i xs l ∙ same)
 
-pub returns : goal.returns
-returns c =
+pub returns-clause-found : goal.returns-clause-found
+returns-clause-found c =
     ends c.args.self.now c.as_slice-syllable-items.result.now c.args.path.now c.loop-syllable.syllable-index c.loop-syllable.id
     (subst IsNumbered c.self.view_is (kept-numbered _ _ _ c.self.invariant))
     c.as_slice-syllable-items.ensures.items c.loop-syllable-test.false c.loop-syllable.invariant.number c.loop-syllable.invariant.path
+
+-- what is kept is numbered
+pub returns-clause-numbered : goal.returns-clause-numbered
+returns-clause-numbered c = subst IsNumbered c.self.view_is (kept-numbered _ _ _ c.self.invariant)
+
+pub returns-then-is_empty-clause-numbered : goal.returns-then-is_empty-clause-numbered
+returns-then-is_empty-clause-numbered c = subst IsNumbered c.self.view_is (kept-numbered _ _ _ c.self.invariant)
+
+pub returns-in_err-number-clause-numbered : goal.returns-in_err-number-clause-numbered
+returns-in_err-number-clause-numbered c = subst IsNumbered c.self.view_is (kept-numbered _ _ _ c.self.invariant)

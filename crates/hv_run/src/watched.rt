@@ -4,7 +4,7 @@ ghost use Rattle.std.specs.Prelude.{◌≡◌, ◌<◌, ◌≤◌, ◌*◌, ◌^
 ghost use Rattle.hv_word.specs.Storage.{word_at};
 ghost use Rattle.hv_map.specs.Apart.{is_one, is_apart};
 ghost use Rattle.hv_map.specs.Chain.{map_along};
-ghost use Rattle.hv_nest.specs.Watched.{foot, is_outside, last_block};
+ghost use Rattle.hv_nest.specs.Watched.{begins, foot, is_outside, last_block};
 ghost use Rattle.hv_run.specs.Play.{Stepped, Lined, any_marked, counts_step, status_at, status_differs, watched_after, watching_beside};
 ghost use Rattle.hv_limits.specs.Limits.{kept_limit};
 
@@ -89,11 +89,10 @@ impl Watched {
 
     // Whether a step of a hart, which ran the machine on the path `running` before it, counts for the watch.
     #[inline(always)]
-    #[tactic(auto, using(crate::proofs::Begins::starts_begins))]
     fn counts(&self, hart: u32, running: &Path, kind: StepKind) -> bool
         ensures { result ≡ counts_step self.now.so_far hart running.now kind }
     {
-        hart == self.hart && self.path.begins(running) && !is_outside(self.path.len(), kind)
+        hart == self.hart && begins(&self.path, running) && !is_outside(self.path.len(), kind)
     }
 
     /// Tells a step of a hart, which ran the machine on the path `running` before it.
@@ -176,6 +175,15 @@ fn keep_change(lines: &mut Vec<LineRow>, row: LineRow)
     if lines.len() < KEPT {
         let _ = lines.push(row);
     }
+}
+
+// Whether a path is a prefix of another. That of the bare machine is one of each.
+#[inline(always)]
+#[tactic(auto, using(crate::proofs::Begins::starts_begins, crate::proofs::Begins::none_begins))]
+fn begins(path: &Path, other: &Path) -> bool
+    ensures { result ≡ begins path.now other.now }
+{
+    path.len() == 0 || path.begins(other)
 }
 
 // Whether one of the two holds.

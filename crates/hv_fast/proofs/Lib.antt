@@ -1,6 +1,7 @@
 pub mod Descending
 pub mod Dropping
 mod Erasing
+pub mod Filling
 pub mod Follows
 pub mod Growing
 pub mod Keeping

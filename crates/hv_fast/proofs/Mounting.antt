@@ -70,12 +70,12 @@ right_more S R b c more pins ids cache rider inner right = record {
 }
 
 -- an element of a list in which one was replaced
-set_here : (ps : List Pin) (h : ℕ) (p q : Pin) → slice_get (set ps h p) h ≡ Some q → p ≡ q
+pub set_here : (ps : List Pin) (h : ℕ) (p q : Pin) → slice_get (set ps h p) h ≡ Some q → p ≡ q
 set_here ps h p q there =
     let inside : h < length ps = omega (arith, slice_get_within (set ps h p) h q there, length-set ps h p) in
     sym (get_or-set_same ps h p q inside) ∙ get_or_from_slice_get (set ps h p) h q q there
 
-set_elsewhere : (ps : List Pin) (k h : ℕ) (p q : Pin) → h ≢ k → slice_get (set ps k p) h ≡ Some q → slice_get ps h ≡ Some q
+pub set_elsewhere : (ps : List Pin) (k h : ℕ) (p q : Pin) → h ≢ k → slice_get (set ps k p) h ≡ Some q → slice_get ps h ≡ Some q
 set_elsewhere ps k h p q ne there =
     let inside : h < length ps = omega (arith, slice_get_within (set ps k p) h q there, length-set ps k p) in
     slice_get-get_or ps h q inside
@@ -157,7 +157,7 @@ quiet_blocks : (S : List ℕ) (r : Regs) (items : List Item) → Quiet S r items
 quiet_blocks S r [] quiet = tt
 quiet_blocks S r (x ∷ xs) quiet = quiet.1
 
-has_listed : (gs hs : List ℕ) → Lists (listed hs) gs → (g : ℕ) → has g gs ≡ true → has g hs ≡ true
+pub has_listed : (gs hs : List ℕ) → Lists (listed hs) gs → (g : ℕ) → has g gs ≡ true → has g hs ≡ true
 has_listed [] hs lists g e = absurd (let f : false ≡ true = e in cc)
 has_listed (k ∷ gs) hs lists g e = elim (eqb_tells g k) [
   | inl agree ↦ subst (λ (h : ℕ). has h hs ≡ true) (sym agree.1) lists.0

@@ -1,19 +1,26 @@
 -- All that is kept beside the state is right after a ride.
-use Rattle.std.proofs.Common.{◌≡◌, ℕ, ◌/◌, ◌<◌, ◌==◌, ◌||◌, inl, inr, Bool, true, false, List, [], ◌∷◌, map, Option, Some, None, refl, ap, ◌∙◌, sym, subst, slice_get, length}
-use Rattle.std.specs.Prelude.{All}
+use Rattle.std.proofs.Common.{◌≡◌, ℕ, ◌+◌, ◌/◌, ◌<◌, ◌==◌, ◌&&◌, ◌||◌, nat_le, nat_lt, inl, inr, Bool, true, false, List, [], ◌∷◌, map, Option, Some, None, refl, ap, ◌∙◌, sym, subst, slice_get, length}
+use Rattle.std.specs.Prelude.{All, IfNone}
+use Rattle.std.specs.Option.{is_some}
 use Rattle.std.specs.List.{AllByRecursion}
+use Rattle.std.proofs.lemmas.Bool.{and_parts, ltb-true}
 use Rattle.std.proofs.lemmas.Bool.Decides.{eqb_tells}
 use Rattle.std.proofs.lemmas.Option.{get_or_from_slice_get, same_Some, slice_get_within}
+use Rattle.hv_word.specs.Storage.{page_count, word_at}
 use Rattle.hv_word.specs.Words.{has}
 use Rattle.hv_cpu.specs.Regs.{Regs}
 use Rattle.hv_csr.specs.Interrupts.{pending_of}
 use Rattle.hv_store.specs.declared.access.Slot.{Slot}
 use Rattle.hv_exec.specs.Act.{act_of}
-use Rattle.hv_block.specs.Block.{regs_at}
+use Rattle.hv_store.specs.Access.{identity}
+use Rattle.hv_block.specs.Block.{Contents, fits_hart, fits_pages, is_block, pages_at, regs_at, table_at, version_at}
 use Rattle.hv_block.proofs.Words.{regs_back}
-use Rattle.hv_map.specs.Chain.{map_along}
+use Rattle.hv_map.specs.Chain.{along, map_along}
+use Rattle.hv_map.specs.Compose.{compose}
+use Rattle.hv_map.specs.Gathered.{bare_gathered_map}
 use Rattle.hv_map.specs.Apart.{blocks_of}
-use Rattle.hv_map.specs.Held.{IsHeld, IsPin}
+use Rattle.hv_map.specs.Held.{IsHeld, IsPin, SaysItems}
+use Rattle.hv_map.proofs.Slots.{length-composed}
 use Rattle.hv_map.specs.Item.{Item}
 use Rattle.hv_map.specs.Links.{last_block}
 use Rattle.hv_nest.specs.Step.{Worked, host_step_of}
@@ -22,11 +29,13 @@ use Rattle.hv_fast.specs.Beside.{EntriesAreRight, EntryIsRight, IsReady, IsRight
 use Rattle.hv_fast.specs.declared.beside.Beside.{Beside}
 use Rattle.hv_fast.specs.declared.pin.Pin.{Pin}
 use Rattle.hv_fast.specs.Marked.{BlocksIn, Marked, listed}
+use Rattle.hv_fast.specs.Memo.{Opens}
 use Rattle.hv_fast.specs.Rides.{HasRidden, IsRidden, Quiet, QuietBlocks, marked_by}
 use Rattle.hv_fast.proofs.Descending.{ride}
 use Rattle.hv_fast.proofs.Growing.{pin_ends}
 use Rattle.hv_fast.proofs.Remembering.{memo_kept, right_opens}
-use Rattle.hv_fast.proofs.Staying.{held_rides, pin_rides, quiet_rides}
+use Rattle.hv_fast.proofs.Saying.{says_block}
+use Rattle.hv_fast.proofs.Staying.{held_rides, pin_rides, placed_says, quiet_rides}
 
 -- the blocks of the items are in the pages of their blocks
 blocks_push : (g : ℕ) (gs : List ℕ) (items : List Item) → BlocksIn gs items → BlocksIn (g ∷ gs) items
@@ -85,6 +94,68 @@ own_regs S T U m g q ridden =
 none_live : (ps : List Pin) (k : ℕ) (o : Pin) → All (λ (p : Pin). p.live ≡ false) ps → slice_get ps k ≡ Some o → o.live ≡ false
 none_live ps k o none found =
     ap (λ (p : Pin). p.live) (sym (get_or_from_slice_get ps k o o found)) ∙ none k o (slice_get_within ps k o found)
+
+-- the map of the last of the items has as many pages as its block says, which are some
+last_pages : (S : List ℕ) (F : List Slot) (j : ℕ) (items : List Item) (g : ℕ)
+    → SaysItems S items
+    → last_block items ≡ Some g
+    → (length (along S F j items) ≡ pages_at S g) × (0 < pages_at S g)
+unfolding along
+last_pages S F j [] g says last = absurd (let f : None ≡ Some g = last in cc)
+last_pages S F j (x ∷ []) g says last =
+    let at : x.block ≡ g = same_Some x.block g last in
+    let b = says_block S x says.0 in (
+      length-composed S F j x.pages x.table x.version ∙ sym (ap (λ (c : Contents). c.pages) b.1) ∙ ap (pages_at S) at,
+      subst (λ (k : ℕ). 0 < pages_at S k) at (some_pages S x.block b.0),
+    )
+  where
+    some_pages : (T : List ℕ) (k : ℕ) → is_block T k ≡ true → 0 < pages_at T k
+    some_pages T k fits =
+        let n : ℕ = pages_at T k in
+        let v : Bool = (version_at T k == 0) || (version_at T k == 2) in
+        let sizes : Bool = nat_lt 0 n && nat_le n 1048576 && nat_lt (table_at T k) 1048576 in
+        let a = and_parts (sizes && nat_lt (word_at T k 64) n) v (and_parts (fits_hart (regs_at T k)) (fits_pages T k) fits).1 in
+        let b = and_parts sizes (nat_lt (word_at T k 64) n) a.0 in
+        let c = and_parts (nat_lt 0 n && nat_le n 1048576) (nat_lt (table_at T k) 1048576) b.0 in
+        ltb-true 0 n (and_parts (nat_lt 0 n) (nat_le n 1048576) c.0).0
+last_pages S F j (x ∷ (y ∷ ys)) g says last =
+    last_pages S (compose S F j x.pages x.table x.version) (j + 1) (y ∷ ys) g says.1 last
+
+last_marked : (gs : List ℕ) (items : List Item) (g : ℕ) → BlocksIn gs items → last_block items ≡ Some g → has g gs ≡ true
+last_marked gs [] g blocks last = absurd (let f : None ≡ Some g = last in cc)
+last_marked gs (x ∷ []) g blocks last = subst (λ (k : ℕ). has k gs ≡ true) (same_Some x.block g last) blocks.0
+last_marked gs (x ∷ (y ∷ ys)) g blocks last = last_marked gs (y ∷ ys) g blocks.1 last
+
+-- what a ride asks for is so of the pin of the hart that rode last
+pub record CanRide (S : List ℕ) (b : Beside) (p : Pin) : Type 0 where
+  pub memo : Opens S p.chain p.memo
+  pub marked : has p.block b.marks.blocks ≡ true
+  pub regs : regs_at S p.block ≡ b.inner
+  pub pages : length (map_along S p.chain) ≡ pages_at S p.block
+  pub some : 0 < pages_at S p.block
+
+pub can_ride : (S : List ℕ) (R : List Regs) (b : Beside) (h : ℕ) (r : Regs) (p : Pin)
+    → IsRightBeside S R b
+    → slice_get R h ≡ Some r
+    → slice_get b.pins.items h ≡ Some p
+    → b.rider ≡ Some h
+    → p.live ≡ true
+    → CanRide S b p
+unfolding map_along
+can_ride S R b h r p right hart mine rider live =
+    let ready : IsReady S r b.marks p = right.pins h r p hart mine live in
+    let says : SaysItems S p.chain = placed_says S (bare_gathered_map (page_count S)) (listed b.marks.tables) 0 p.chain ready.pin.placed in
+    let n = last_pages_along p.chain p.block says ready.ends in
+    record {
+      memo = right_opens S p.chain b.marks.tables p.memo ready.memo;
+      marked = last_marked b.marks.blocks p.chain p.block ready.blocks ready.ends;
+      regs = (right.rider h p rider mine).1;
+      pages = n.0;
+      some = n.1;
+    }
+  where
+    last_pages_along : (items : List Item) (g : ℕ) → SaysItems S items → last_block items ≡ Some g → (length (map_along S items) ≡ pages_at S g) × (0 < pages_at S g)
+    last_pages_along items g says last = last_pages S (identity (page_count S)) 0 items g says last
 
 -- where no other machine runs then
 pub ridden_right : (S U : List ℕ) (R : List Regs) (b c : Beside) (h : ℕ) (r q : Regs) (p : Pin)
@@ -163,4 +234,13 @@ ridden_step S U R b h r q p right hart mine rider live quiet idle rode =
     all_quiet [] h = tt
     all_quiet (x ∷ xs) h = (quiet, h)
 
-pub ruleset riders = (ridden_right, ridden_dropped, ridden_step, right_opens)
+-- there is none where there isn't some
+pub is_none : {A : Type 0} → (o : Option A) → is_some o ≡ false → o ≡ None
+is_none None e = refl
+is_none (Some x) e = absurd (let f : true ≡ false = e in cc)
+
+pub none_holds : {A : Type 0} → (o : Option A) (P : Type 0) → is_some o ≡ false → IfNone o P → P
+none_holds None P e h = h
+none_holds (Some x) P e h = absurd (let f : true ≡ false = e in cc)
+
+pub ruleset riders = (can_ride, ridden_right, ridden_dropped, ridden_step)

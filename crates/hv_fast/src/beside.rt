@@ -14,7 +14,7 @@ ghost use Rattle.hv_nest.specs.Step.{Worked, host_step_of};
 ghost use Rattle.hv_cache.specs.Holding.{without_page};
 ghost use Rattle.hv_fast.specs.Beside.{IsBlockStill, IsRightBeside, IsSpared, IsUnpinned, NoPins, WordIsSpared};
 
-use crate::following::follow;
+use crate::following::{entered, follow};
 use crate::marks::Marks;
 use crate::memo::Memo;
 use crate::pin::Pin;
@@ -138,8 +138,35 @@ impl Beside {
     /// One instruction of the machine at the end of the pin of a hart, which rode last, with the words that it changed. There is
     /// none where that can't be done by the pin; then nothing changed.
     #[inline(always)]
-    #[tactic(auto, using(crate::proofs::Riders::riders))]
     pub(crate) fn ride(&mut self, store: &mut Store, hart: u32) -> Option<Changed>
+        requires hart { hart < length self.old.pins.items }
+        requires rider { self.old.rider ≡ Some hart }
+        requires right { (R : List Regs) × (r : Regs) × (slice_get R hart ≡ Some r) × IsRightBeside store.old R self.old }
+        ensures right { (R : List Regs) (r : Regs) → slice_get R hart ≡ Some r → IsRightBeside store.old R self.old → IsRightBeside store.new R self.new }
+        ensures rode { IfSome result (λ rows. (R : List Regs) (r : Regs) → slice_get R hart ≡ Some r → IsRightBeside store.old R self.old
+            → pending_of r ≡ None → host_step_of store.old hart r ≡ Worked store.new r) }
+        ensures changed { IfSome result (λ rows. rows ≡ differences store.old store.new) }
+        ensures none { IfNone result (store.new ≡ store.old) }
+        ensures len { length store.new ≡ length store.old }
+        ensures count { length self.new.pins.items ≡ length self.old.pins.items }
+    {
+        let mut missed = None;
+        let changed = self.one(store, hart, &mut missed);
+        if let Some(miss) = missed {
+            self.fill(store, hart, miss);
+        }
+        changed
+    }
+
+    // The same, with the page that wasn't at hand, if there was one.
+    #[inline(always)]
+    #[tactic(auto, using(crate::proofs::Riders::riders))]
+    fn one(
+        &mut self,
+        store: &mut Store,
+        hart: u32,
+        missed: &mut Option<Miss>,
+    ) -> Option<Changed>
         requires hart { hart < length self.old.pins.items }
         requires rider { self.old.rider ≡ Some hart }
         requires right { (R : List Regs) × (r : Regs) × (slice_get R hart ≡ Some r) × IsRightBeside store.old R self.old }
@@ -154,14 +181,13 @@ impl Beside {
         let pin = &self.pins[hart as usize];
         let inner = &self.inner;
         if !pin.live
-            || inner.next.is_some()
+            || entered(inner).is_some()
             || pending(inner).is_some()
             || pin.block >= store.pages()
         {
             return None;
         }
         let mut notes = Notes::new();
-        let mut missed = None;
         let rode = ride(
             store,
             &mut notes,
@@ -171,17 +197,16 @@ impl Beside {
             &self.marks,
             &self.cache,
             &mut self.inner,
-            &mut missed,
+            missed,
         );
-        let changed = notes.changed(store);
-        if self.inner.next.is_some() {
+        if !rode {
+            return None;
+        }
+        if entered(&self.inner).is_some() {
             // Another machine runs now, also for other harts that run this one.
             self.drop_pins();
         }
-        if let Some(miss) = missed {
-            self.fill(store, hart, miss);
-        }
-        if rode { Some(changed) } else { None }
+        Some(notes.changed(store))
     }
 
     /// The path of the machine that a hart with these registers runs.

@@ -35,7 +35,8 @@ pub(crate) fn follow(store: &Store, cpu: &Cpu, tables: &mut Pages) -> Option<Cha
 }
 
 // The page of the machine that is to run, if any.
-fn entered(cpu: &Cpu) -> Option<u32>
+#[inline(always)]
+pub(crate) fn entered(cpu: &Cpu) -> Option<u32>
     ensures some { IfSome result (λ page. (page ≡ cpu.now.next) × (page ≢ 0)) }
     ensures none { IfNone result (cpu.now.next ≡ 0) }
 {

@@ -97,6 +97,7 @@ impl Nested for Fast {
 
     #[inline(always)]
     fn step(&mut self, hart: u32) -> Outcome {
+        let _pages = self.store.pages();
         match self.ride(hart) {
             Some(changed) => Outcome {
                 kind: StepKind::Worked,

@@ -101,12 +101,14 @@ looked_any test (e ∷ es) = go (test e.0) (looked_any test es)
     go false rest = rest
 
 -- what is looked up is there where it is held
-pub looks : (paths : List (List ℕ)) (es : List Entry) (k : ℕ) (path : List ℕ) (page : ℕ) → IsNumbered paths → slice_get paths k ≡ Some path → is_some (option_map (λ (h : Kept). h.slot) (lookup (same (k, page)) es)) ≡ is_held paths es path page
-looks paths es k path page N is =
-    there (lookup (same (k, page)) es)
-    ∙ looked_any (same (k, page)) es
+pub found_held : (paths : List (List ℕ)) (es : List Entry) (k : ℕ) (path : List ℕ) (page : ℕ) → IsNumbered paths → slice_get paths k ≡ Some path → is_some (lookup (same (k, page)) es) ≡ is_held paths es path page
+found_held paths es k path page N is =
+    looked_any (same (k, page)) es
     ∙ any_alike (λ (e : Entry). same (k, page) e.0) (λ (e : Entry). is_number_of (slice_get paths (e.0).0) path && ((e.0).1 == page)) es
     (each (λ (e : Entry). same (k, page) e.0 ≡ (is_number_of (slice_get paths (e.0).0) path && ((e.0).1 == page))) (λ e. key_is paths k path page N is e.0) es)
+
+pub looks : (paths : List (List ℕ)) (es : List Entry) (k : ℕ) (path : List ℕ) (page : ℕ) → IsNumbered paths → slice_get paths k ≡ Some path → is_some (option_map (λ (h : Kept). h.slot) (lookup (same (k, page)) es)) ≡ is_held paths es path page
+looks paths es k path page N is = there (lookup (same (k, page)) es) ∙ found_held paths es k path page N is
   where
     there : (o : Option Kept) → is_some (option_map (λ (h : Kept). h.slot) o) ≡ is_some o
     there None = refl

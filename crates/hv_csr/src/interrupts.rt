@@ -18,6 +18,9 @@ pub fn pending(cpu: &Cpu) -> Option<u32>
     ensures within { IfSome result (λ k. k < 16) }
 {
     let raised = cpu.mip & cpu.mie;
+    if raised == 0 {
+        return None;
+    }
     let delegated = raised & cpu.mideleg;
     let own = if takes_own(cpu) {
         most_urgent(without(raised, cpu.mideleg))

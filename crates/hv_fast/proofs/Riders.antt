@@ -131,10 +131,9 @@ ridden_dropped S U R b c d h q p right rode is dropped = record {
   held =
       let entries : d.cache.entries ≡ b.cache.entries = ap (λ x. x.entries) (dropped.cache ∙ ap (λ (x : Beside). x.cache) is) in
       let ids : d.ids ≡ b.ids = dropped.ids ∙ ap (λ (x : Beside). x.ids) is in
-      subst (λ es. EntriesAreRight U d.ids es) (sym entries) (
-        subst (λ paths. EntriesAreRight U paths b.cache.entries) (sym ids)
-            (entries_ride S rode.after U b.ids b.cache.entries p.block q rode.held right.held),
-      );
+      let rides = entries_ride S rode.after U b.ids b.cache.entries p.block q rode.held right.held in
+      subst (λ (es : List Entry). EntriesAreRight U d.ids es) (sym entries)
+          (subst (λ (paths : List (List ℕ)). EntriesAreRight U paths b.cache.entries) (sym ids) rides);
 }
 
 -- the step of the hart

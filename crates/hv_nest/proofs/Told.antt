@@ -223,6 +223,34 @@ unfolding undone
 differences_unnoted T notes n e =
     differences_itself T n ∙ sym (ap (λ (ns : List Note). differences_to (undone T ns) T n) e)
 
+-- behind the one place that is noted nothing changed
+single_after : (T : List ℕ) (notes : List Note) (at : ℕ) → length notes ≤ 1 → is_noted at notes ≡ true → SameBetween (undone T notes) T (at + 1) (length T)
+single_after T notes at few noted a from lt = by (is_noted a notes) refl
+  where
+    by : (t : Bool) → is_noted a notes ≡ t → get_or (undone T notes) a 0 ≡ get_or T a 0
+    by false e = undone_at T notes a e
+    by true e =
+        let zero_le : 0 ≤ at = omega arith in
+        absurd (omega (arith, few, noted_all notes 0, noted_less notes 0 at noted zero_le, noted_less notes (at + 1) a e from))
+
+-- where one place is noted at most one word changed
+pub differences_single : (T : List ℕ) (notes : List Note) (at : ℕ) → length notes ≤ 1 → is_noted at notes ≡ true → IsNextChange (undone T notes) T 0 at → differences_to (undone T notes) T (length (undone T notes)) ≡ record { at = at; value = get_or T at 0 } ∷ []
+differences_single T notes at few noted c =
+    let S : List ℕ = undone T notes in
+    let past : at + 1 ≤ length T = omega (arith, c.inside) in
+    ap (differences_to S T) (length-undone T notes)
+    ∙ differences_same S T (at + 1) (length T) past (single_after T notes at few noted)
+    ∙ differences_next S T 0 at c
+    ∙ ap (λ (xs : List ChangedRow). xs ++ record { at = at; value = get_or T at 0 } ∷ []) (sym (differences_none S T))
+
+pub differences_unchanged : (T : List ℕ) (notes : List Note) → SameBetween (undone T notes) T 0 (length T) → [] ≡ differences_to (undone T notes) T (length (undone T notes))
+differences_unchanged T notes same =
+    let S : List ℕ = undone T notes in
+    let z : 0 ≤ length T = omega arith in
+    differences_none S T
+    ∙ sym (differences_same S T 0 (length T) z same)
+    ∙ ap (differences_to S T) (sym (length-undone T notes))
+
 -- the rows behind those that are told
 drop_row : (z : ChangedRow) (rows : List ChangedRow) (n k : ℕ) (row : ChangedRow) → n < length rows → drop n rows ≡ replicate (suc k) z → drop (n + 1) (set rows n row) ≡ replicate k z
 drop_row z rows n k row lt e =

@@ -1,6 +1,6 @@
 //! Which bare words a step changed.
 
-ghost use Rattle.std.specs.Prelude.{◌≡◌, []};
+ghost use Rattle.std.specs.Prelude.{◌≡◌, [], ◌∷◌};
 ghost use Rattle.hv_nest.specs.Rows.{rows_limit};
 
 use std::marker::Model;
@@ -54,6 +54,17 @@ impl Changed {
             len: 0,
             rows: [ChangedRow { at: 0, value: 0 }; ROWS],
         }
+    }
+
+    /// One word.
+    #[inline(always)]
+    pub(crate) fn one(row: ChangedRow) -> Changed
+        ensures { result ≡ row ∷ [] }
+    {
+        let mut changed = Changed::none();
+        changed.rows[0] = row;
+        changed.len = 1;
+        changed
     }
 
     /// The rows of the words that changed.

@@ -142,6 +142,7 @@ impl Notes {
     }
 
     // The first place from `from` on whose word was another before.
+    #[inline(always)]
     #[tactic(auto, using(crate::proofs::Told::telling))]
     fn next(&self, store: &Store, from: u32) -> Option<u32>
         ensures some { IfSome result (λ at. IsNextChange (undone store.now self.now) store.now from at) }
@@ -158,6 +159,7 @@ impl Notes {
     }
 
     /// The words that are others now, by rising place.
+    #[inline(always)]
     #[tactic(auto, using(crate::proofs::Told::telling))]
     pub fn changed(&self, store: &Store) -> Changed
         ensures { result ≡ differences (undone store.now self.now) store.now }
@@ -165,10 +167,38 @@ impl Notes {
         if self.len == 0 {
             return Changed::none();
         }
-        self.rows(store)
+        self.noted(store)
     }
 
-    // The same where there are notes.
+    // The same where there are notes: most steps have none.
+    #[inline(never)]
+    fn noted(&self, store: &Store) -> Changed
+        ensures { result ≡ differences (undone store.now self.now) store.now }
+    {
+        if self.len == 1 {
+            self.single(store)
+        } else {
+            self.rows(store)
+        }
+    }
+
+    // The same where there is one note, as after a store.
+    #[inline(always)]
+    #[tactic(auto, using(crate::proofs::Told::telling))]
+    fn single(&self, store: &Store) -> Changed
+        requires { length self.now ≡ 1 }
+        ensures { result ≡ differences (undone store.now self.now) store.now }
+    {
+        match self.next(store, 0) {
+            Some(at) => Changed::one(ChangedRow {
+                at,
+                value: store.get(at),
+            }),
+            None => Changed::none(),
+        }
+    }
+
+    // The same by a search for each row.
     #[tactic(auto, using(crate::proofs::Told::telling))]
     fn rows(&self, store: &Store) -> Changed
         ensures { result ≡ differences (undone store.now self.now) store.now }

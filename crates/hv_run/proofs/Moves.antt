@@ -11,11 +11,10 @@ use Rattle.hv_nest.specs.State.{State}
 use Rattle.hv_nest.specs.Move.{Move, state_after, last_of}
 use Rattle.hv_nest.specs.Watched.{LineChange, Tally, no_tally, are_same, same_status, keeps_foot, foot, last_block, lines_of, is_counted, beside, tally_after, tally_of}
 use Rattle.hv_run.specs.declared.counts.Counts.{Counts}
-use Rattle.hv_run.specs.declared.happened.Happened.{Happened}
 use Rattle.hv_run.specs.Record.{Count, no_count, count_after, count_of, last_kept, WatchOf, WatchRecord, watch_record, watch_records, count_record, record_of}
 use Rattle.hv_limits.specs.Limits.{kept_limit}
 use Rattle.hv_apart.specs.Marked.{SetOf}
-use Rattle.hv_run.specs.Play.{Watching, Played, all_so_far, mip_of, status_at, any_marked, counts_for, changes_in, status_differs, touches, record_after, watched_after, counts_after, all_after, played_after}
+use Rattle.hv_run.specs.Play.{Happened, Watching, Played, all_so_far, mip_of, status_at, any_marked, counts_for, changes_in, status_differs, touches, record_after, watched_after, counts_after, all_after, played_after}
 use Rattle.hv_whole.specs.Whole.{IsMasked, AreMasked}
 use Rattle.hv_run.specs.Run.{IsMoveInside, StaysInside}
 use Rattle.hv_run.specs.Stands.{IsKept, KeptOf, EachKept, StandsFor}

@@ -11,10 +11,9 @@ use Rattle.hv_nest.specs.State.{State}
 use Rattle.hv_nest.specs.Move.{StepOf, LinesOf, Moved, moved_of, lined_at, lined_state, running_of}
 use Rattle.hv_nest.specs.Watched.{are_same, begins, is_outside}
 use Rattle.hv_run.specs.declared.counts.Counts.{Counts}
-use Rattle.hv_run.specs.declared.happened.Happened.TheVariants.{Stepped, Lined}
 use Rattle.hv_run.specs.Record.{Count, FaultRecord, kind_counted, last_kept}
 use Rattle.hv_limits.specs.Limits.{kept_limit}
-use Rattle.hv_run.specs.Play.{Watching, any_marked, kind_after}
+use Rattle.hv_run.specs.Play.{Stepped, Lined, Watching, any_marked, kind_after}
 use Rattle.hv_run.proofs.Lists.{last_pushed}
 use Rattle.hv_run.proofs.Moves.{Tells, numbers}
 use Rattle.hv_run.proofs.Touch.{exact, all_same_itself}

@@ -5,9 +5,8 @@ use Rattle.std.proofs.lemmas.List.{length-map, get_or-map, take_at, take_more_se
 use Rattle.std.proofs.lemmas.Grind.{drop_more_same}
 use Rattle.hv_cpu.specs.Lines.{lines}
 use Rattle.hv_nest.specs.State.{State}
-use Rattle.hv_run.specs.declared.happened.Happened.{Happened}
 use Rattle.hv_run.specs.Record.{WatchRecord}
-use Rattle.hv_run.specs.Play.{Watching, record_after, watched_after, all_after, TellsWithin}
+use Rattle.hv_run.specs.Play.{Happened, Watching, record_after, watched_after, all_after, TellsWithin}
 
 total_within : (e : Bool) (m n : ℕ) → m ≤ n → cond e m (m + 1) ≤ n + 1
 total_within true m n le = omega arith

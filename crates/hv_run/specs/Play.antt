@@ -9,11 +9,15 @@ use Rattle.hv_nest.specs.declared.outcome.StepKind.TheVariants.{Worked as Worked
 use Rattle.hv_nest.specs.State.{State}
 use Rattle.hv_nest.specs.Watched.{LineChange, begins, is_outside}
 use Rattle.hv_run.specs.declared.counts.Counts.{Counts}
-use Rattle.hv_run.specs.declared.happened.Happened.{Happened}
-use Rattle.hv_run.specs.declared.happened.Happened.TheVariants.{Stepped, Lined}
 use Rattle.hv_run.specs.Record.{WatchRecord, PlayRecord, fault_record, last_kept}
 use Rattle.hv_limits.specs.Limits.{kept_limit}
 use Rattle.hv_apart.specs.Marked.{is_marked}
+
+-- What a move did: a step of a hart, with the path of the machine that the hart ran before it, told where there are
+-- watches, its kind and the words that it changed; or a change of a hart's lines, which changes no word of the storage.
+pub data Happened : Type 0 where
+  Stepped : (hart : ℕ) (running : List ℕ) (kind : StepKind) (changed : List ChangedRow) → Happened
+  Lined : Happened
 
 -- a watch: what is told of it so far, the set of its foot's places, and its present word with the interrupt lines
 pub record Watching : Type 0 where
@@ -56,10 +60,14 @@ abbrev pub any_marked : List ℕ → List ChangedRow → Bool
 any_marked foot [] = false
 any_marked foot (row ∷ rows) = is_marked foot row.at || any_marked foot rows
 
+-- whether a step of a hart counts for a watch
+abbrev pub counts_step : WatchRecord → (hart : ℕ) → (running : List ℕ) → StepKind → Bool
+counts_step w hart running kind =
+    (hart == w.hart) && (begins w.path running && not (is_outside (length w.path) kind))
+
 -- whether a move counts for a watch
 abbrev pub counts_for : WatchRecord → Happened → Bool
-counts_for w (Stepped hart running kind changed) =
-    (hart == w.hart) && (begins w.path running && not (is_outside (length w.path) kind))
+counts_for w (Stepped hart running kind changed) = counts_step w hart running kind
 counts_for w Lined = false
 
 -- the changed words of a step; a change of lines tells none

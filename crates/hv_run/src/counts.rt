@@ -1,11 +1,10 @@
 //! What a play counts.
 
 ghost use Rattle.std.specs.Prelude.{◌≡◌, ◌≤◌, ◌<◌, ◌+◌, ◌^◌, [], IfOk};
-ghost use Rattle.hv_run.specs.Play.{kind_after, counts_after, CountsWithin};
+ghost use Rattle.hv_run.specs.Play.{kind_after, CountsWithin};
 
 use crate::fault::FaultRow;
 use crate::faults::Faults;
-use crate::happened::Happened;
 use hv_nest::StepKind;
 use std::alloc::{AllocError, Global};
 
@@ -32,24 +31,9 @@ impl Counts {
         })
     }
 
-    /// Counts what a move did.
+    /// Counts a step of a hart.
     #[inline(always)]
-    pub(crate) fn tell(&mut self, happened: &Happened)
-        requires { CountsWithin (2 ^ 62) self.old }
-        ensures counts { self.new ≡ counts_after self.old happened.now }
-        ensures steps { self.new.steps ≤ self.old.steps + 1 }
-        ensures faults { self.new.faults ≤ self.old.faults + 1 }
-        ensures recalls { self.new.recalls ≤ self.old.recalls + 1 }
-    {
-        match happened {
-            Happened::Stepped { hart, kind, .. } => self.count(*hart, *kind),
-            Happened::Lined => {}
-        }
-    }
-
-    // Counts a step.
-    #[inline(always)]
-    fn count(&mut self, hart: u32, kind: StepKind)
+    pub(crate) fn tell(&mut self, hart: u32, kind: StepKind)
         requires { CountsWithin (2 ^ 62) self.old }
         ensures counts { self.new ≡ kind_after self.old hart kind }
         ensures steps { self.new.steps ≤ self.old.steps + 1 }

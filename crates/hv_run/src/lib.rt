@@ -4,7 +4,6 @@
 mod counts;
 mod fault;
 mod faults;
-mod happened;
 pub mod laws;
 mod moving;
 mod playing;

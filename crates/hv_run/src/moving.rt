@@ -5,14 +5,13 @@ ghost use Rattle.hv_limits.specs.Limits.{lines_mask};
 ghost use Rattle.hv_nest.specs.Changes.{differences};
 ghost use Rattle.hv_nest.specs.Move.{StepOf, LinesOf, moved_of, lined_state, last_of, running_of};
 ghost use Rattle.hv_irq.specs.Events.{hart_of, mask_of, steps_of};
-ghost use Rattle.hv_run.specs.Play.{all_after, played_after, all_so_far, play_record, TellsWithin};
+ghost use Rattle.hv_run.specs.Play.{Stepped, Lined, all_after, played_after, all_so_far, play_record, TellsWithin};
 ghost use Rattle.hv_run.specs.Promises.{AreBareRunsWith, IsRoutedIn, fault_in};
 ghost use Rattle.hv_run.specs.Record.{moves_of};
 ghost use Rattle.hv_run.specs.Stands.{CanWatch, EachNew, Follows, StandsFor, watches_of};
 
 use crate::counts::Counts;
 use crate::fault::FaultRow;
-use crate::happened::Happened;
 use crate::record::{Record, WatchRow};
 use crate::starting::start;
 use crate::watched::Watched;
@@ -85,13 +84,7 @@ impl Play {
     {
         let running = self.running(nested, hart);
         let outcome = nested.step(hart);
-        let happened = Happened::Stepped {
-            hart,
-            running,
-            kind: outcome.kind,
-            changed: outcome.changed,
-        };
-        self.tell(nested, &happened);
+        self.tell_step(nested, hart, &running, &outcome);
         outcome
     }
 
@@ -108,7 +101,7 @@ impl Play {
         ensures guests { AreBareRunsWith self.old (N.state nested.old) (LinesOf hart mask ∷ []) }
     {
         nested.lines(hart, mask);
-        self.tell(nested, &Happened::Lined);
+        self.tell_lines(nested);
     }
 
     /// How often `turn` and `lines` were called.
@@ -193,26 +186,53 @@ impl Play {
         }
     }
 
-    // Tells a move, after which the engine is as it is now.
+    // Tells a step of a hart, which ran the machine on the path `running` before it.
     #[inline(always)]
-    fn tell<N: Nested>(&mut self, nested: &N, happened: &Happened)
+    fn tell_step<N: Nested>(&mut self, nested: &N, hart: u32, running: &Path, outcome: &Outcome)
         requires calls { self.old.calls < 2 ^ 62 }
-        ensures { self.new ≡ played_after happened.now (N.state nested.now) self.old }
+        ensures { self.new
+            ≡ played_after (Stepped hart running.now outcome.now.kind outcome.now.changed) (N.state nested.now) self.old }
     {
         self.calls += 1;
-        self.counts.tell(happened);
-        tell_all(&mut self.watched, nested, happened);
+        self.counts.tell(hart, outcome.kind);
+        step_all(&mut self.watched, nested, hart, running, outcome);
+    }
+
+    // Tells a change of a hart's lines.
+    fn tell_lines<N: Nested>(&mut self, nested: &N)
+        requires calls { self.old.calls < 2 ^ 62 }
+        ensures { self.new ≡ played_after Lined (N.state nested.now) self.old }
+    {
+        self.calls += 1;
+        line_all(&mut self.watched, nested);
     }
 }
 
-// Tells a move to each watch.
+// Tells each watch a step of a hart, which ran the machine on the path `running` before it.
 #[inline(always)]
-fn tell_all<N: Nested>(watched: &mut [Watched], nested: &N, happened: &Happened)
+fn step_all<N: Nested>(
+    watched: &mut [Watched],
+    nested: &N,
+    hart: u32,
+    running: &Path,
+    outcome: &Outcome,
+)
     requires room { TellsWithin (2 ^ 62 - 1) watched.old }
-    ensures { watched.new ≡ all_after happened.now (N.state nested.now) watched.old }
+    ensures { watched.new
+        ≡ all_after (Stepped hart running.now outcome.now.kind outcome.now.changed) (N.state nested.now) watched.old }
 {
     for one in watched.iter_mut() {
-        one.tell(nested, happened);
+        one.tell_step(nested, hart, running, outcome);
+    }
+}
+
+// Tells each watch a change of a hart's lines.
+fn line_all<N: Nested>(watched: &mut [Watched], nested: &N)
+    requires room { TellsWithin (2 ^ 62 - 1) watched.old }
+    ensures { watched.new ≡ all_after Lined (N.state nested.now) watched.old }
+{
+    for one in watched.iter_mut() {
+        one.tell_lines(nested);
     }
 }
 

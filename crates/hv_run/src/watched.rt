@@ -4,17 +4,16 @@ ghost use Rattle.std.specs.Prelude.{◌≡◌, ◌<◌, ◌≤◌, ◌*◌, ◌^
 ghost use Rattle.hv_word.specs.Storage.{word_at};
 ghost use Rattle.hv_map.specs.Apart.{is_one, is_apart};
 ghost use Rattle.hv_map.specs.Chain.{map_along};
-ghost use Rattle.hv_nest.specs.Watched.{foot, is_outside, last_block};
-ghost use Rattle.hv_run.specs.Play.{any_marked, counts_for, changes_in, status_at, status_differs, touches, watched_after, watching_after, watching_beside};
+ghost use Rattle.hv_nest.specs.Watched.{begins, foot, is_outside, last_block};
+ghost use Rattle.hv_run.specs.Play.{Stepped, Lined, any_marked, counts_step, status_at, status_differs, watched_after, watching_beside};
 ghost use Rattle.hv_limits.specs.Limits.{kept_limit};
 
-use crate::happened::Happened;
 use crate::record::WatchRow;
 use hv_apart::Footing;
 use hv_limits::{KEPT, LINES};
 use hv_list::Items;
 use hv_map::{Chain, Path};
-use hv_nest::{Changed, LineRow, Nested, StepKind};
+use hv_nest::{Changed, LineRow, Nested, Outcome, StepKind};
 use hv_store::Store;
 use std::alloc::{AllocError, Global};
 use std::marker::Model;
@@ -88,46 +87,57 @@ impl Watched {
         status_of(nested, self.hart, self.block)
     }
 
-    // Whether a move counts for the watch.
+    // Whether a step of a hart, which ran the machine on the path `running` before it, counts for the watch.
     #[inline(always)]
-    fn counts(&self, happened: &Happened) -> bool
-        ensures { result ≡ counts_for self.now.so_far happened.now }
+    fn counts(&self, hart: u32, running: &Path, kind: StepKind) -> bool
+        ensures { result ≡ counts_step self.now.so_far hart running.now kind }
     {
-        match happened {
-            Happened::Stepped {
-                hart,
-                running,
-                kind,
-                changed: _,
-            } => {
-                *hart == self.hart
-                    && self.path.begins(running)
-                    && !is_outside(self.path.len(), *kind)
-            }
-            Happened::Lined => false,
-        }
+        hart == self.hart && begins(&self.path, running) && !is_outside(self.path.len(), kind)
     }
 
-    // Whether a move, after which the word with the lines is `status`, changed a word of the machine's foot.
-    fn touches(&self, happened: &Happened, status: u32) -> bool
-        ensures { result ≡ touches self.now happened.now status }
-    {
-        any_marked(&self.foot, happened) || status_differs(self.block, self.status, status)
-    }
-
-    // Tells a move, after which the word with the lines is `status`.
+    /// Tells a step of a hart, which ran the machine on the path `running` before it.
     #[inline(always)]
-    fn note(&mut self, happened: &Happened, status: u32)
+    pub(crate) fn tell_step<N: Nested>(
+        &mut self,
+        nested: &N,
+        hart: u32,
+        running: &Path,
+        outcome: &Outcome,
+    )
         requires count { self.old.so_far.count < 2 ^ 62 }
         requires total { self.old.so_far.line_total < 2 ^ 62 }
-        ensures { self.new ≡ watching_after happened.now status self.old }
+        ensures { self.new
+            ≡ watched_after (Stepped hart running.now outcome.now.kind outcome.now.changed) (N.state nested.now) self.old }
     {
-        if self.counts(happened) {
+        let status = self.status_now(nested);
+        if self.counts(hart, running, outcome.kind) {
             self.count += 1;
             self.status = status;
             return;
         }
-        let touches = self.touches(happened, status);
+        self.tell_beside(&outcome.changed, status);
+    }
+
+    /// Tells a change of a hart's lines.
+    pub(crate) fn tell_lines<N: Nested>(&mut self, nested: &N)
+        requires count { self.old.so_far.count < 2 ^ 62 }
+        requires total { self.old.so_far.line_total < 2 ^ 62 }
+        ensures { self.new ≡ watched_after Lined (N.state nested.now) self.old }
+    {
+        let status = self.status_now(nested);
+        self.tell_beside(&Changed::none(), status);
+    }
+
+    // Tells a move that doesn't count, by the words that it changed, and the word with the lines after it. It is no part of
+    // `tell_step`, since most steps count.
+    #[inline(never)]
+    fn tell_beside(&mut self, changed: &Changed, status: u32)
+        requires { self.old.so_far.line_total < 2 ^ 62 }
+        ensures { self.new ≡ watching_beside
+            (any_marked self.old.foot changed.now || status_differs self.old.so_far.block self.old.status status) status self.old }
+    {
+        let touches = any_changed(&self.foot, changed)
+            || status_differs(self.block, self.status, status);
         self.note_beside(touches, status);
     }
 
@@ -152,17 +162,6 @@ impl Watched {
         );
         self.status = status;
     }
-
-    /// Tells a move, after which the engine is as it is now.
-    #[inline(always)]
-    pub(crate) fn tell<N: Nested>(&mut self, nested: &N, happened: &Happened)
-        requires count { self.old.so_far.count < 2 ^ 62 }
-        requires total { self.old.so_far.line_total < 2 ^ 62 }
-        ensures { self.new ≡ watched_after happened.now (N.state nested.now) self.old }
-    {
-        let status = self.status_now(nested);
-        self.note(happened, status);
-    }
 }
 
 // Keeps a change of the lines, while as many aren't kept yet.
@@ -176,6 +175,15 @@ fn keep_change(lines: &mut Vec<LineRow>, row: LineRow)
     if lines.len() < KEPT {
         let _ = lines.push(row);
     }
+}
+
+// Whether a path is a prefix of another. That of the bare machine is one of each.
+#[inline(always)]
+#[tactic(auto, using(crate::proofs::Begins::none_begins))]
+fn begins(path: &Path, other: &Path) -> bool
+    ensures { result ≡ begins path.now other.now }
+{
+    path.len() == 0 || path.begins(other)
 }
 
 // Whether one of the two holds.
@@ -218,17 +226,6 @@ fn status_differs(block: Option<u32>, old: u32, new: u32) -> bool
     ensures { result ≡ status_differs block old new }
 {
     block.is_some() && old - (old & LINES) != new - (new & LINES)
-}
-
-// Whether a move changed a word that the foot has.
-#[inline(always)]
-fn any_marked(foot: &Footing, happened: &Happened) -> bool
-    ensures { result ≡ any_marked foot.now (changes_in happened.now) }
-{
-    let Happened::Stepped { changed, .. } = happened else {
-        return false;
-    };
-    any_changed(foot, changed)
 }
 
 // Whether one of the words that changed is in the foot.

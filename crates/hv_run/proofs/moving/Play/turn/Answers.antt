@@ -2,10 +2,9 @@ use Rattle.std.proofs.Common.{◌≡◌, ◌++◌, ◌∷◌, [], List, ap, sym,
 use Rattle.hv_nest.specs.Changes.{differences}
 use Rattle.hv_nest.specs.Move.{StepOf, Moved, moved_of}
 use Rattle.hv_nest.specs.State.{State, IsNextInside}
-use Rattle.hv_run.specs.Play.{Played}
+use Rattle.hv_run.specs.Play.{Stepped, Played}
 use Rattle.hv_run.specs.Promises.{fault_in, IsRoutedIn}
 use Rattle.hv_run.specs.Stands.{StandsFor}
-use Rattle.hv_run.specs.declared.happened.Happened.TheVariants.{Stepped}
 use Rattle.hv_run.proofs.Moves.{stands_more}
 use Rattle.hv_run.proofs.Promised.{follows_bare}
 use Rattle.hv_run.proofs.Routes.{step_routed}
@@ -27,7 +26,7 @@ returns-clause-stands g c =
     let inside = subst (λ (st : State). IsNextInside st hart) same c.step-outcome.ensures.next in
     let tells = tells_step c.args.self.now.watching old new hart c.running-running.result kind changed moves_is c.running-running.ensures.path told len in
     let both = stands_more c.args.self.now start old moves watches (StepOf hart) new (Stepped hart c.running-running.result kind changed) tt inside tells stands is in
-    (subst (λ (p : Played). StandsFor p start (moves ++ StepOf hart ∷ []) watches) (sym c.tell.ensures) both.0, both.1)
+    (subst (λ (p : Played). StandsFor p start (moves ++ StepOf hart ∷ []) watches) (sym c.tell_step.ensures) both.0, both.1)
 
 pub returns-clause-guests : goal.returns-clause-guests
 returns-clause-guests g c =

@@ -1,17 +1,17 @@
 use Rattle.std.proofs.Common.{◌≡◌, ◌+◌, ◌++◌, length, take, drop, ap, sym, subst, ◌∙◌, arith}
 use Rattle.std.proofs.lemmas.List.{length-map}
-use Rattle.hv_run.specs.Play.{all_after, watched_after, TellsWithin}
+use Rattle.hv_run.specs.Play.{Lined, all_after, watched_after, TellsWithin}
 use Rattle.hv_run.proofs.Within.{all_within, written_back}
-use Rattle.hv_run.proofs.moving.Play.tell.Goals as goal
+use Rattle.hv_run.proofs.moving.Play.tell_lines.Goals as goal
 
 pub invariant_of-self : goal.invariant_of-self
 invariant_of-self g c =
-    let h = c.args.happened.now in
+    let h = Lined in
     let st = g.N.Nested.state c.args.nested.now in
     let old = c.self.inside.watched.items in
-    let now : c.tell_all.new.watched ≡ all_after h st old = c.tell_all.ensures ∙ ap (all_after h st) c.deref_mut.ensures.value in
-    let len : length c.tell_all.new.watched ≡ c.self.inside.watched.len = omega (arith, ap length now, length-map old (watched_after h st)) in
-    let same : take c.self.inside.watched.len (c.tell_all.new.watched ++ drop (length c.tell_all.new.watched) old) ≡ all_after h st old = written_back c.self.inside.watched.len c.tell_all.new.watched old len ∙ now in (
+    let now : c.line_all.new.watched ≡ all_after h st old = c.line_all.ensures ∙ ap (all_after h st) c.deref_mut.ensures.value in
+    let len : length c.line_all.new.watched ≡ c.self.inside.watched.len = omega (arith, ap length now, length-map old (watched_after h st)) in
+    let same : take c.self.inside.watched.len (c.line_all.new.watched ++ drop (length c.line_all.new.watched) old) ≡ all_after h st old = written_back c.self.inside.watched.len c.line_all.new.watched old len ∙ now in (
       (omega arith, omega arith, omega arith),
       subst (TellsWithin (c.self.inside.calls + 1)) (sym same) (all_within c.self.inside.calls h st old c.self.invariant.1),
       c.self.invariant.2,

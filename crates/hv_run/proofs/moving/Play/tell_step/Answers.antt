@@ -1,0 +1,19 @@
+use Rattle.std.proofs.Common.{◌≡◌, ◌+◌, ◌++◌, length, take, drop, ap, sym, subst, ◌∙◌, arith}
+use Rattle.std.proofs.lemmas.List.{length-map}
+use Rattle.hv_run.specs.Play.{Stepped, all_after, watched_after, TellsWithin}
+use Rattle.hv_run.proofs.Within.{all_within, written_back}
+use Rattle.hv_run.proofs.moving.Play.tell_step.Goals as goal
+
+pub invariant_of-self : goal.invariant_of-self
+invariant_of-self g c =
+    let h = (Stepped c.args.hart c.args.running.now c.args.outcome.now.kind c.args.outcome.now.changed) in
+    let st = g.N.Nested.state c.args.nested.now in
+    let old = c.self.inside.watched.items in
+    let now : c.step_all.new.watched ≡ all_after h st old = c.step_all.ensures ∙ ap (all_after h st) c.deref_mut.ensures.value in
+    let len : length c.step_all.new.watched ≡ c.self.inside.watched.len = omega (arith, ap length now, length-map old (watched_after h st)) in
+    let same : take c.self.inside.watched.len (c.step_all.new.watched ++ drop (length c.step_all.new.watched) old) ≡ all_after h st old = written_back c.self.inside.watched.len c.step_all.new.watched old len ∙ now in (
+      (omega arith, omega arith, omega arith),
+      subst (TellsWithin (c.self.inside.calls + 1)) (sym same) (all_within c.self.inside.calls h st old c.self.invariant.1),
+      c.self.invariant.2,
+      omega (arith, ap length same, length-map old (watched_after h st)),
+    )

@@ -1,6 +1,6 @@
 //! Where the pages of a running machine lie, and which of that is held.
 
-ghost use Rattle.std.specs.Prelude.{◌≡◌, ◌↔◌, ◌<◌, ◌+◌, List, true, false, IfSome, Some, length, slice_get};
+ghost use Rattle.std.specs.Prelude.{◌≡◌, ◌↔◌, ◌<◌, ◌+◌, List, true, false, Some, length, slice_get};
 ghost use Rattle.hv_store.specs.declared.access.Slot.{Slot};
 ghost use Rattle.hv_store.specs.Access.{open_at};
 ghost use Rattle.hv_map.specs.Chain.{map_of, pin_of};

@@ -1,7 +1,6 @@
 -- On the bare machine a slot opens the page itself; else it is found, or held.
-use Rattle.std.proofs.Common.{◌≡◌, ◌↔◌, ◌<◌, ◌∙◌, false, true, List, length, [], Some, sym, ap, subst, arith}
+use Rattle.std.proofs.Common.{◌≡◌, ◌↔◌, ◌<◌, ◌∙◌, false, true, List, length, Some, sym, ap, subst, arith}
 use Rattle.std.proofs.lemmas.Option.{same_Some}
-use Rattle.hv_store.specs.declared.access.Slot.{Slot}
 use Rattle.hv_map.specs.Chain.{pin_of}
 use Rattle.hv_map.specs.Item.{Item}
 use Rattle.hv_nest.specs.Move.{running_of}

@@ -22,7 +22,8 @@ abbrev pub is_held : List (List ℕ) → List Entry → List ℕ → ℕ → Boo
 is_held paths es path page =
     list_any (λ (e : Entry). is_number_of (slice_get paths (e.0).0) path && ((e.0).1 == page)) es
 
--- whether the slot of a page is known without a table: on the bare machine's path each is, on others those that are held
+-- Whether the slot of a page is known without a table: on the bare machine's path each is, on others those that are
+-- held.
 abbrev pub is_known : List (List ℕ) → List Entry → List ℕ → ℕ → Bool
 is_known paths es [] page = true
 is_known paths es (s ∷ path) page = is_held paths es (s ∷ path) page

@@ -1,5 +1,5 @@
 -- Which translations are held, and that they are right, as entries are looked up, kept and forgotten, and paths get numbers.
-use Rattle.std.proofs.Common.{◌≡◌, ◌≢◌, ℕ, suc, ◌-◌, ◌<◌, ◌≤◌, inl, inr, Bool, true, false, ◌&&◌, ◌||◌, cond, ◌==◌, List, [], ◌∷◌, ◌++◌, ◌⊎◌, MatchOption, length, take, zero, Option, Some, None, is_some, refl, ap, ◌∙◌, sym, subst, arith, slice_get}
+use Rattle.std.proofs.Common.{◌≡◌, ◌≢◌, ℕ, suc, ◌-◌, ◌<◌, ◌≤◌, inl, inr, Bool, true, false, ◌&&◌, ◌||◌, cond, ◌==◌, List, [], ◌∷◌, ◌++◌, ◌⊎◌, MatchOption, length, take, zero, Option, Some, None, is_some, refl, ap, ◌∙◌, sym, subst, slice_get}
 use Rattle.std.specs.List.{AllByRecursion, list_any}
 use Rattle.std.specs.Map.{lookup, lookup_entry, remove_entry}
 use Rattle.std.specs.Option.{option_map, option_map_or}
@@ -11,7 +11,7 @@ use Rattle.hv_word.specs.Storage.{page_count}
 use Rattle.hv_store.specs.declared.access.Slot.{Slot}
 use Rattle.hv_store.specs.Access.{identity}
 use Rattle.hv_map.specs.Apart.{blocks_of}
-use Rattle.hv_map.specs.Chain.{map_along, map_of, pin_of}
+use Rattle.hv_map.specs.Chain.{map_along, pin_of}
 use Rattle.hv_map.specs.Gathered.{Gathered, Listed, gathered_along, no_pages, pages_gathered, pages_read, pin_pages, with_pages}
 use Rattle.hv_map.specs.Held.{IsHeld, Lists}
 use Rattle.hv_map.specs.Item.{Item}
@@ -101,12 +101,14 @@ looked_any test (e ∷ es) = go (test e.0) (looked_any test es)
     go false rest = rest
 
 -- what is looked up is there where it is held
-pub looks : (paths : List (List ℕ)) (es : List Entry) (k : ℕ) (path : List ℕ) (page : ℕ) → IsNumbered paths → slice_get paths k ≡ Some path → is_some (option_map (λ (h : Kept). h.slot) (lookup (same (k, page)) es)) ≡ is_held paths es path page
-looks paths es k path page N is =
-    there (lookup (same (k, page)) es)
-    ∙ looked_any (same (k, page)) es
+pub found_held : (paths : List (List ℕ)) (es : List Entry) (k : ℕ) (path : List ℕ) (page : ℕ) → IsNumbered paths → slice_get paths k ≡ Some path → is_some (lookup (same (k, page)) es) ≡ is_held paths es path page
+found_held paths es k path page N is =
+    looked_any (same (k, page)) es
     ∙ any_alike (λ (e : Entry). same (k, page) e.0) (λ (e : Entry). is_number_of (slice_get paths (e.0).0) path && ((e.0).1 == page)) es
     (each (λ (e : Entry). same (k, page) e.0 ≡ (is_number_of (slice_get paths (e.0).0) path && ((e.0).1 == page))) (λ e. key_is paths k path page N is e.0) es)
+
+pub looks : (paths : List (List ℕ)) (es : List Entry) (k : ℕ) (path : List ℕ) (page : ℕ) → IsNumbered paths → slice_get paths k ≡ Some path → is_some (option_map (λ (h : Kept). h.slot) (lookup (same (k, page)) es)) ≡ is_held paths es path page
+looks paths es k path page N is = there (lookup (same (k, page)) es) ∙ found_held paths es k path page N is
   where
     there : (o : Option Kept) → is_some (option_map (λ (h : Kept). h.slot) o) ≡ is_some o
     there None = refl
@@ -377,3 +379,14 @@ pub number_ends : (paths : List (List ℕ)) (xs path : List ℕ) (i : ℕ) (numb
 number_ends paths xs path i None same past given so_far = sym (so_far ∙ take_all i xs past ∙ same)
 number_ends paths xs path i (Some k) same past given so_far =
     slice_get-get_or paths k [] given ∙ ap Some (so_far ∙ take_all i xs past ∙ same)
+
+-- the pages that were listed one after the other are those that were read
+pub listed_for : (S : List ℕ) (items : List Item) (page : ℕ) (first second third : Listed)
+    → first ≡ no_pages
+    → second ≡ with_pages first (pin_pages S items)
+    → third ≡ with_pages second (pages_read (gathered_along S items) page)
+    → third ≡ pages_for S items page
+listed_for S items page first second third a b c =
+    c
+    ∙ ap (λ (p : Listed). with_pages p (pages_read (gathered_along S items) page))
+    (b ∙ ap (λ (p : Listed). with_pages p (pin_pages S items)) a)

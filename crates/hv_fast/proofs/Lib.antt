@@ -5,6 +5,7 @@ pub mod Filling
 pub mod Follows
 pub mod Growing
 pub mod Keeping
+pub mod Knowing
 pub mod MarkingPaths
 pub mod Mounting
 pub mod Opening

@@ -22,6 +22,12 @@ abbrev pub is_held : List (List ℕ) → List Entry → List ℕ → ℕ → Boo
 is_held paths es path page =
     list_any (λ (e : Entry). is_number_of (slice_get paths (e.0).0) path && ((e.0).1 == page)) es
 
+-- Whether the slot of a page is known without a table: on the bare machine's path each is, on others those that are
+-- held.
+abbrev pub is_known : List (List ℕ) → List Entry → List ℕ → ℕ → Bool
+is_known paths es [] page = true
+is_known paths es (s ∷ path) page = is_held paths es (s ∷ path) page
+
 -- the pages that are read to find the machines on a path, and then a page of the last of them
 abbrev pub pages_for : List ℕ → List Item → ℕ → Listed
 pages_for S items page = with_pages (with_pages no_pages (pin_pages S items)) (pages_read (gathered_along S items) page)

@@ -21,9 +21,9 @@ use std::marker::Model;
 /// that they take as long at every depth.
 #[derive(Drop)]
 pub struct Fast {
-    store: Store,
-    harts: Harts,
-    beside: Beside,
+    pub(crate) store: Store,
+    pub(crate) harts: Harts,
+    pub(crate) beside: Beside,
 }
 
 impl Model for Fast {

@@ -4,6 +4,7 @@
 mod beside;
 mod fast;
 mod following;
+mod holding;
 pub mod laws;
 mod marks;
 mod memo;

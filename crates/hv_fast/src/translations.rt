@@ -120,6 +120,16 @@ fn hold_by<L: Ledger>(
     translate(ids, cache, store, path, page, &mut steps)
 }
 
+/// Whether the translation of a page of the machine on a path is held.
+pub(crate) fn holds(ids: &Ids, cache: &MapCache, path: &Path, page: u32) -> bool
+    ensures { result ≡ is_held ids.now cache.now.entries path.now page }
+{
+    match ids.find(path) {
+        Some(number) => cache.holds(number, page),
+        None => false,
+    }
+}
+
 // The slot of a page of the machine on a path, if that is held. It becomes the most recently used.
 fn look(ids: &Ids, cache: &mut MapCache, path: &Path, page: u32) -> Option<Slot>
     ensures some { is_some result ≡ is_held ids.now cache.old.entries path.now page }

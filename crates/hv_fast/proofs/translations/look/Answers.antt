@@ -1,6 +1,6 @@
 -- What is found under the number of a path is what is held of it.
-use Rattle.std.proofs.Common.{◌∙◌, List, is_some, sym, ap, subst}
-use Rattle.hv_cache.specs.Holding.{Entry, Holding, same}
+use Rattle.std.proofs.Common.{◌∙◌, is_some, sym, ap, subst}
+use Rattle.hv_cache.specs.Holding.{Holding, same}
 use Rattle.hv_fast.specs.Beside.{EntriesAreRight, EntryIsRight}
 use Rattle.hv_fast.specs.Holds.{is_held}
 use Rattle.hv_fast.proofs.Keeping.{all_promoted, held_promoted, looks, new_none, slot_found}

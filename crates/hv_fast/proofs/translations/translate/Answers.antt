@@ -1,13 +1,13 @@
 -- What is held stays right, and what is found is held from then on.
-use Rattle.std.proofs.Common.{◌≡◌, ◌∙◌, ◌≤◌, true, false, is_some, Some, refl, sym, ap, subst, arith}
+use Rattle.std.proofs.Common.{◌≡◌, ◌∙◌, ◌≤◌, false, refl, sym, ap, subst, arith}
 use Rattle.hv_limits.specs.Limits.{pages_limit}
 use Rattle.hv_word.specs.Storage.{page_count}
-use Rattle.hv_map.specs.Gathered.{Listed, gathered_along, pages_read, pin_pages, with_pages}
+use Rattle.hv_map.specs.Gathered.{Listed}
 use Rattle.hv_cache.specs.Holding.{Holding}
 use Rattle.hv_cache.specs.Kept.{kept_of}
 use Rattle.hv_fast.specs.Beside.{EntriesAreRight, EntryIsRight}
 use Rattle.hv_fast.specs.Holds.{is_held}
-use Rattle.hv_fast.proofs.Keeping.{all_kept, blocks_inside, entry_right, held_first, not_held, some_reads, tables_inside}
+use Rattle.hv_fast.proofs.Keeping.{all_kept, blocks_inside, entry_right, held_first, listed_for, not_held, some_reads, tables_inside}
 use Rattle.hv_fast.proofs.translations.translate.Goals as goal
 
 pub returns-in-Some-clause-right : goal.returns-in-Some-clause-right
@@ -37,11 +37,9 @@ keep-requires-clause-blocks g c =
 pub keep-requires-clause-tables : goal.keep-requires-clause-tables
 keep-requires-clause-tables g c =
     let few : page_count c.args.store.now ≤ pages_limit = omega (arith, c.pages-pages.ensures.count, c.pages-pages.ensures.bound) in
-    let read = pages_read (gathered_along c.args.store.now c.in-Some-pin_noting.chain) c.args.page in
-    let pinned = pin_pages c.args.store.now c.in-Some-pin_noting.chain in
     tables_inside c.args.store.now c.in-Some-pin_noting.chain c.args.page pages_limit c.resolve_noting-slot.new.tables few
-    (c.resolve_noting-slot.ensures.tables
-    ∙ ap (λ (p : Listed). with_pages p read) (c.in-Some-pin_noting.ensures.tables ∙ ap (λ (p : Listed). with_pages p pinned) c.new-tables.ensures))
+    (listed_for c.args.store.now c.in-Some-pin_noting.chain c.args.page c.new-tables.result c.pin_noting.new.tables c.resolve_noting-slot.new.tables
+    c.new-tables.ensures c.in-Some-pin_noting.ensures.tables c.resolve_noting-slot.ensures.tables)
 
 pub returns-in-Ok-clause-right : goal.returns-in-Ok-clause-right
 returns-in-Ok-clause-right g c =
@@ -51,12 +49,10 @@ returns-in-Ok-clause-right g c =
     let k = c.in-Some-number.number in
     let slot = c.resolve_noting-slot.result in
     let tables = c.resolve_noting-slot.new.tables in
-    let read = pages_read (gathered_along S items) c.args.page in
-    let pinned = pin_pages S items in
-    let listed = c.resolve_noting-slot.ensures.tables
-    ∙ ap (λ (p : Listed). with_pages p read) (c.in-Some-pin_noting.ensures.tables ∙ ap (λ (p : Listed). with_pages p pinned) c.new-tables.ensures) in
+    let listed = listed_for S items c.args.page c.new-tables.result c.pin_noting.new.tables tables
+    c.new-tables.ensures c.in-Some-pin_noting.ensures.tables c.resolve_noting-slot.ensures.tables in
     let room : tables.full ≡ false = ap (λ (p : Listed). p.full) (sym c.tables.view_is) ∙ c.if-tables.false in
-    subst (EntriesAreRight S ids) (sym (ap (λ (h : Holding). h.entries) c.in-Ok.ensures.ok))
+    subst (λ (h : Holding). EntriesAreRight S ids h.entries) (sym c.in-Ok.ensures.ok)
     (all_kept (EntryIsRight S ids) c.number.new.cache (k, c.args.page) (kept_of slot items tables.pages)
     (entry_right S ids k c.args.path.now items c.args.page slot tables c.in-Some-number.ensures.number (sym c.in-Some-pin_noting.ensures.chain)
     c.resolve_noting-slot.ensures.slot listed room)

@@ -1,5 +1,6 @@
 pub mod Descending
 pub mod Dropping
+pub mod Engines
 mod Erasing
 pub mod Filling
 pub mod Follows

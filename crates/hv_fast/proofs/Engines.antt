@@ -94,7 +94,7 @@ pub ridden_frames : (S T : List ℕ) (rs : List Regs) (h : ℕ) (r : Regs) (st :
     → IsFramedBy st.storage (running_of st h) T
 ridden_frames S T rs h r st there is step =
     subst (λ (s : State). IsFramedBy s.storage (running_of s h) T) is
-        (subst (λ (o : Option Regs). IsFramedBy S (running_at S o) T) (sym there) (host_framed S T h r r WorkedKind (sym step)))
+    (subst (λ (o : Option Regs). IsFramedBy S (running_at S o) T) (sym there) (host_framed S T h r r WorkedKind (sym step)))
 
 -- each next is inside as long as the storage has as many words
 pub same_pages : (S T : List ℕ) (rs : List Regs) → length T ≡ length S → All (NextBelow (page_count S)) rs → All (NextBelow (page_count T)) rs

@@ -64,7 +64,7 @@ entry_rides S T U paths e g q ridden right = record {
   blocks = right.blocks;
   held =
       held_rides S T U q right.items (marked_by e.1) g e.0.1 e.1.slot ridden
-          (subst (λ (gs : List ℕ). BlocksIn gs right.items) (sym right.blocks) (blocks_own right.items)) right.held;
+      (subst (λ (gs : List ℕ). BlocksIn gs right.items) (sym right.blocks) (blocks_own right.items)) right.held;
 }
 
 pub entries_ride : (S T U : List ℕ) (paths : List (List ℕ)) (es : List Entry) (g : ℕ) (q : Regs) → AllByRecursion (λ (e : Entry). IsRidden S T U (marked_by e.1) g q) es → EntriesAreRight S paths es → EntriesAreRight U paths es
@@ -81,7 +81,7 @@ pin_stays_ready S T U m g q r p ridden idle none ready = record {
   quiet = quiet_rides S T U r q p.chain m g ridden idle ready.blocks ready.pin ready.quiet;
   memo =
       memo_kept S U p.chain m.tables m.tables p.memo
-          (λ page slot held. held_rides S T U q p.chain m g page slot ridden ready.blocks held) ready.memo;
+      (λ page slot held. held_rides S T U q p.chain m g page slot ridden ready.blocks held) ready.memo;
 }
 
 -- the registers that were put into a block are those in it
@@ -204,7 +204,7 @@ ridden_dropped S U R b c d h q p right rode is dropped = record {
       let ids : d.ids ≡ b.ids = dropped.ids ∙ ap (λ (x : Beside). x.ids) is in
       let rides = entries_ride S rode.after U b.ids b.cache.entries p.block q rode.held right.held in
       subst (λ (es : List Entry). EntriesAreRight U d.ids es) (sym entries)
-          (subst (λ (paths : List (List ℕ)). EntriesAreRight U paths b.cache.entries) (sym ids) rides);
+      (subst (λ (paths : List (List ℕ)). EntriesAreRight U paths b.cache.entries) (sym ids) rides);
 }
 
 -- the step of the hart
@@ -222,13 +222,13 @@ ridden_step S U R b h r q p right hart mine rider live quiet idle rode =
     let ready : IsReady S r b.marks p = right.pins h r p hart mine live in
     let inner : regs_at S p.block ≡ b.inner = (right.rider h p rider mine).1 in
     ride S rode.after U h r q p.chain b.marks p.block
-        ready.pin
-        ready.blocks
-        (all_quiet p.chain ready.quiet)
-        ready.ends
-        (ap pending_of inner ∙ idle)
-        (ap (λ (k : Regs). act_of S (map_along S p.chain) 0 k) inner ∙ rode.acts)
-        rode.marked
+    ready.pin
+    ready.blocks
+    (all_quiet p.chain ready.quiet)
+    ready.ends
+    (ap pending_of inner ∙ idle)
+    (ap (λ (k : Regs). act_of S (map_along S p.chain) 0 k) inner ∙ rode.acts)
+    rode.marked
   where
     all_quiet : (items : List Item) → QuietBlocks S items → Quiet S r items
     all_quiet [] h = tt

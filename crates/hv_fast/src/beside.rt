@@ -161,12 +161,7 @@ impl Beside {
     // The same, with the page that wasn't at hand, if there was one.
     #[inline(always)]
     #[tactic(auto, using(crate::proofs::Riders::riders))]
-    fn one(
-        &mut self,
-        store: &mut Store,
-        hart: u32,
-        missed: &mut Option<Miss>,
-    ) -> Option<Changed>
+    fn one(&mut self, store: &mut Store, hart: u32, missed: &mut Option<Miss>) -> Option<Changed>
         requires hart { hart < length self.old.pins.items }
         requires rider { self.old.rider ≡ Some hart }
         requires right { (R : List Regs) × (r : Regs) × (slice_get R hart ≡ Some r) × IsRightBeside store.old R self.old }

@@ -96,14 +96,14 @@ impl Nested for Fast {
     ghost state = { λ f. f.state };
 
     #[inline(always)]
-    fn step(&mut self, hart: u32) -> Outcome {
+    fn step_into(&mut self, hart: u32, outcome: &mut Outcome) {
         let _pages = self.store.pages();
         match self.ride(hart) {
-            Some(changed) => Outcome {
-                kind: StepKind::Worked,
-                changed,
-            },
-            None => self.step_anew(hart),
+            Some(changed) => {
+                outcome.kind = StepKind::Worked;
+                outcome.changed = changed;
+            }
+            None => *outcome = self.step_anew(hart),
         }
     }
 
@@ -113,6 +113,13 @@ impl Nested for Fast {
 
     fn running(&mut self, hart: u32) -> Path {
         self.beside.path(&self.store, self.harts.at(hart), hart)
+    }
+
+    fn runs(&self, hart: u32, path: &Path) -> bool {
+        self.beside
+            .path(&self.store, self.harts.at(hart), hart)
+            .as_slice()
+            == path.as_slice()
     }
 
     fn cpu(&self, hart: u32) -> Cpu {

@@ -67,6 +67,14 @@ impl Changed {
         changed
     }
 
+    /// Forgets its words.
+    #[inline(always)]
+    pub(crate) fn clear(&mut self)
+        ensures { self.new ≡ [] }
+    {
+        *self = Changed::none();
+    }
+
     /// The rows of the words that changed.
     pub fn as_slice(&self) -> &[ChangedRow]
         ensures { result.now ≡ self.now }

@@ -10,6 +10,7 @@ ghost use Rattle.hv_nest.specs.Frame.{IsFramedBy};
 ghost use Rattle.hv_nest.specs.Kinds.{NextBelow};
 ghost use Rattle.hv_nest.specs.Move.{moved_of, running_of};
 
+use crate::notes::Notes;
 use crate::outcome::Outcome;
 use crate::step::host_step;
 use hv_cpu::{Cpu, reset};
@@ -90,6 +91,30 @@ impl Harts {
         ensures { IfSome (slice_get self.old hart) (λ r. self.new ≡ slice_set self.old hart (lined_of r mask)) }
     {
         self.cpus[hart as usize].set_lines(mask);
+    }
+
+    /// One step of a hart, told in `outcome` in place of what that told; `notes` is room for it. The next of each hart, if it has
+    /// one, is a page of the storage.
+    #[inline(always)]
+    pub fn step_into(
+        &mut self,
+        store: &mut Store,
+        notes: &mut Notes,
+        hart: u32,
+        outcome: &mut Outcome,
+    )
+        requires hart { hart < length self.old }
+        requires next { All (NextBelow (page_count store.old)) self.old }
+        ensures moves { record { kind = outcome.new.kind; state = record { storage = store.new; harts = self.new } }
+            ≡ moved_of (record { storage = store.old; harts = self.old }) hart }
+        ensures changed { outcome.new.changed ≡ differences store.old store.new }
+        ensures frame { IsFramedBy store.old (running_of (record { storage = store.old; harts = self.old }) hart) store.new }
+        ensures next { All (NextBelow (page_count store.old)) self.new }
+        ensures count { length self.new ≡ length self.old }
+        ensures len { length store.new ≡ length store.old }
+    {
+        notes.clear();
+        *outcome = self.step(store, hart);
     }
 
     /// One step of a hart. The next of each, if it has one, is a page of the storage.

@@ -1,6 +1,6 @@
 //! Engines that make the steps of the bare machine and of the machines inside it.
 
-ghost use Rattle.std.specs.Prelude.{◌≡◌, ◌<◌, ◌≤◌, Some, IfSome, length, slice_get, bit_and};
+ghost use Rattle.std.specs.Prelude.{◌≡◌, ◌≢◌, ◌<◌, ◌≤◌, Some, IfSome, true, false, length, slice_get, bit_and};
 ghost use Rattle.hv_limits.specs.Limits.{lines_mask};
 
 use crate::outcome::Outcome;
@@ -21,7 +21,18 @@ pub trait Nested {
     ghost use Rattle.hv_nest.specs.Frame.{IsFramedBy};
     ghost use Rattle.hv_nest.specs.Move.{moved_of, lined_state, running_of};
 
-    /// One step of a hart. The machine that the hart ran before, if any, was on one of the pages of the storage.
+    /// One step of a hart, told in `outcome` in place of what that told. The machine that the hart ran before, if any, was on one
+    /// of the pages of the storage.
+    fn step_into(&mut self, hart: u32, outcome: &mut Outcome)
+        requires { hart < length (state self.old).harts }
+        ensures moves { record { kind = outcome.new.kind; state = state self.new } ≡ moved_of (state self.old) hart }
+        ensures changed { outcome.new.changed ≡ differences (state self.old).storage (state self.new).storage }
+        ensures frame { IsFramedBy (state self.old).storage (running_of (state self.old) hart) (state self.new).storage }
+        ensures next { IsNextInside (state self.old) hart }
+        ensures harts { length (state self.new).harts ≡ length (state self.old).harts }
+        ensures len { length (state self.new).storage ≡ length (state self.old).storage };
+
+    /// The same with an outcome of its own.
     fn step(&mut self, hart: u32) -> Outcome
         requires { hart < length (state self.old).harts }
         ensures moves { record { kind = result.kind; state = state self.new } ≡ moved_of (state self.old) hart }
@@ -29,7 +40,12 @@ pub trait Nested {
         ensures frame { IsFramedBy (state self.old).storage (running_of (state self.old) hart) (state self.new).storage }
         ensures next { IsNextInside (state self.old) hart }
         ensures harts { length (state self.new).harts ≡ length (state self.old).harts }
-        ensures len { length (state self.new).storage ≡ length (state self.old).storage };
+        ensures len { length (state self.new).storage ≡ length (state self.old).storage }
+    {
+        let mut outcome = Outcome::none();
+        self.step_into(hart, &mut outcome);
+        outcome
+    }
 
     /// Sets the lines from outside of a hart to those of `mask`, which has no other bits.
     fn lines(&mut self, hart: u32, mask: u32)
@@ -42,6 +58,12 @@ pub trait Nested {
         requires { hart < length (state self.old).harts }
         ensures path { result ≡ running_of (state self.old) hart }
         ensures same { state self.new ≡ state self.old };
+
+    /// Whether a hart runs the machine on this path, or, on the empty path, none.
+    fn runs(&self, hart: u32, path: &Path) -> bool
+        requires { hart < length (state self.now).harts }
+        ensures yes { result ≡ true → path.now ≡ running_of (state self.now) hart }
+        ensures no { result ≡ false → path.now ≢ running_of (state self.now) hart };
 
     /// The registers of a hart.
     fn cpu(&self, hart: u32) -> Cpu

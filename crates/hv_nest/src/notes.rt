@@ -46,6 +46,14 @@ impl Notes {
         }
     }
 
+    /// Forgets its notes.
+    #[inline(always)]
+    pub fn clear(&mut self)
+        ensures { self.new ≡ [] }
+    {
+        *self = Notes::new();
+    }
+
     /// The notes in order.
     pub fn as_slice(&self) -> &[Note]
         ensures items { result.now ≡ self.now }
@@ -168,6 +176,14 @@ impl Notes {
             return Changed::none();
         }
         self.noted(store)
+    }
+
+    /// The same, told in `changed` in place of what that told.
+    #[inline(always)]
+    pub fn tell(&self, store: &Store, changed: &mut Changed)
+        ensures { changed.new ≡ differences (undone store.now self.now) store.now }
+    {
+        *changed = self.changed(store);
     }
 
     // The same where there are notes: most steps have none.

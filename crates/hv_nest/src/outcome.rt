@@ -1,5 +1,8 @@
 //! What a step comes to.
 
+ghost use Rattle.std.specs.Prelude.{◌≡◌, []};
+ghost use Rattle.hv_nest.specs.declared.outcome.StepKind.TheVariants.{Worked};
+
 use crate::changed::Changed;
 use hv_store::Access;
 
@@ -24,4 +27,17 @@ pub enum StepKind {
 pub struct Outcome {
     pub kind: StepKind,
     pub changed: Changed,
+}
+
+impl Outcome {
+    /// The outcome of a step that worked and changed no word.
+    pub fn none() -> Outcome
+        ensures kind { result.kind ≡ Worked }
+        ensures changed { result.changed ≡ [] }
+    {
+        Outcome {
+            kind: StepKind::Worked,
+            changed: Changed::none(),
+        }
+    }
 }

@@ -48,9 +48,9 @@ impl Nested for Plain {
     ghost state = { λ p. p };
 
     #[inline(always)]
-    fn step(&mut self, hart: u32) -> Outcome {
+    fn step_into(&mut self, hart: u32, outcome: &mut Outcome) {
         let _pages = self.store.pages();
-        self.harts.step(&mut self.store, hart)
+        *outcome = self.harts.step(&mut self.store, hart);
     }
 
     fn lines(&mut self, hart: u32, mask: u32) {
@@ -59,6 +59,10 @@ impl Nested for Plain {
 
     fn running(&mut self, hart: u32) -> Path {
         path_of(&self.store, self.harts.at(hart))
+    }
+
+    fn runs(&self, hart: u32, path: &Path) -> bool {
+        path_of(&self.store, self.harts.at(hart)).as_slice() == path.as_slice()
     }
 
     fn cpu(&self, hart: u32) -> Cpu {

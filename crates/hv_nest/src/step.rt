@@ -144,7 +144,7 @@ pub(crate) fn step_at(
             let mut inner = block.cpu;
             match step_at(store, notes, &deeper, 0, &mut inner) {
                 Ok(kind) => {
-                    put_cpu(store, notes, host, &inner);
+                    put_cpu(store, notes, host, &inner, 0);
                     Ok(kind)
                 }
                 Err(refusal) => tell(store, notes, level, cpu, host, refusal),

@@ -1,6 +1,6 @@
 //! The bare storage.
 
-ghost use Rattle.std.specs.Prelude.{◌≡◌, ℕ, ◌+◌, ◌*◌, ◌<◌, ◌≤◌, IfOk, length, slice_index, slice_set};
+ghost use Rattle.std.specs.Prelude.{◌≡◌, ℕ, ◌+◌, ◌*◌, ◌<◌, ◌≤◌, IfOk, length, take, drop, slice_index, slice_set};
 ghost use Rattle.hv_limits.specs.Limits.{pages_limit};
 ghost use Rattle.hv_word.specs.Storage.{page_count};
 ghost use Rattle.hv_store.specs.Access.{identity};
@@ -60,6 +60,16 @@ impl Store {
         ensures { result ≡ slice_index self.now at }
     {
         self.words[at as usize]
+    }
+
+    /// So many words from a place on, counted from 0.
+    #[inline(always)]
+    pub fn row(&self, at: u32, count: u32) -> &[u32]
+        requires { at + count ≤ length self.now }
+        ensures { result.now ≡ take count (drop at self.now) }
+    {
+        let _pages = self.pages();
+        &self.words[at as usize..(at + count) as usize]
     }
 
     /// Replaces the word at a place, counted from 0.

@@ -6,7 +6,7 @@ use Rattle.hv_word.specs.Storage.{page_count}
 use Rattle.hv_cpu.specs.Regs.{Regs}
 use Rattle.hv_nest.specs.State.{State, IsNextInside}
 use Rattle.hv_nest.specs.Kinds.{NextBelow}
-use Rattle.hv_nest.proofs.plain.PlainNested.step.Goals as goal
+use Rattle.hv_nest.proofs.plain.PlainNested.step_into.Goals as goal
 
 below : (n s : ℕ) → 1 ≤ n → (s ≢ 0 → s < n) → s < n
 below n zero some b = omega (arith, some)

@@ -4,7 +4,7 @@ use Rattle.hv_word.specs.Storage.{page_count}
 use Rattle.hv_nest.specs.State.{IsNextInside}
 use Rattle.hv_fast.specs.Engine.{Engine}
 use Rattle.hv_fast.proofs.Engines.{next_inside}
-use Rattle.hv_fast.proofs.fast.FastNested.step.Goals as goal
+use Rattle.hv_fast.proofs.fast.FastNested.step_into.Goals as goal
 
 pub returns-in-Some-clause-next : goal.returns-in-Some-clause-next
 returns-in-Some-clause-next c =

@@ -9,6 +9,3 @@ mod standing;
 
 pub use foot::Footing;
 pub use standing::{apart, one_to_one};
-
-#[cfg(test)]
-mod tests;

@@ -10,8 +10,6 @@ ghost use Rattle.std.proofs.Math.Seq.{sets};
 ghost use Rattle.hv_block.specs.Contents.{contents_of};
 
 pub mod laws;
-#[cfg(test)]
-mod tests;
 
 use hv_cpu::mstatus::{MPP, MPP_BITS};
 use hv_cpu::{Cpu, MEDELEG_MASK, MIDELEG_MASK, MIE_MASK, MIP_MASK, MSTATUS_MASK, Mode, SATP_MASK};

@@ -8,8 +8,6 @@ mod entries;
 mod kept;
 pub mod laws;
 mod tally;
-#[cfg(test)]
-mod tests;
 
 pub use cache::MapCache;
 pub use kept::Kept;

@@ -6,8 +6,6 @@ mod csr;
 mod interrupts;
 pub mod laws;
 mod status;
-#[cfg(test)]
-mod tests;
 mod traps;
 
 pub use access::{Illegal, csr_read, csr_write};

@@ -10,8 +10,3 @@ mod rows;
 mod system;
 
 pub use instruction::act;
-
-#[cfg(test)]
-mod entry_tests;
-#[cfg(test)]
-mod tests;

@@ -41,17 +41,3 @@ impl<T> Items<T> {
         self.items
     }
 }
-
-#[cfg(test)]
-mod tests {
-    use super::*;
-    use std::test::Fail;
-
-    #[test]
-    fn gives_back_what_it_was_made_from(rt: HostRuntime) -> Result<(), Fail> {
-        let list = Items::new(vec![in rt.alloc(); 3u32, 4]?);
-        assert_eq!(rt; list.as_slice(), [3u32, 4].as_slice());
-        assert_eq!(rt; list.into_vec().as_slice(), [3u32, 4].as_slice());
-        Ok(())
-    }
-}

@@ -24,6 +24,3 @@ pub use path::{Path, Watch};
 pub use pinning::{child_noting, pin, pin_noting};
 pub use view::View;
 pub use ways::Trail;
-
-#[cfg(test)]
-mod tests;

@@ -23,6 +23,3 @@ pub use outcome::{Outcome, StepKind};
 pub use plain::Plain;
 pub use running::path_of;
 pub use step::host_step;
-
-#[cfg(test)]
-mod tests;

@@ -78,14 +78,3 @@ pub fn sample(which: Sample) -> &'static str
         Sample::Pager => PAGER,
     }
 }
-
-#[cfg(test)]
-mod tests {
-    use super::*;
-
-    #[test]
-    fn the_text_of_pass(rt: HostRuntime) {
-        let text = "start:  li x5, 0x1000\nagain:  vmenter x5\n        j again\n";
-        assert_eq!(rt; sample(Sample::Pass), text);
-    }
-}

@@ -10,6 +10,3 @@ pub use access::{Access, Refusal, Slot, Way};
 pub use space::Space;
 pub use steps::Steps;
 pub use store::Store;
-
-#[cfg(test)]
-mod tests;

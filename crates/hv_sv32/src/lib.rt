@@ -7,8 +7,6 @@ ghost use Rattle.hv_sv32.specs.Stop.{FitsMachine, walked};
 ghost use Rattle.hv_sv32.specs.Walk.{access_fault_of, at_first, at_second, is_bare, page_fault_of, located, through_first, through_second, walk_of};
 
 mod entry;
-#[cfg(test)]
-mod tests;
 
 use entry::{effective_mode, grants, is_faulty, is_leaf, is_plain};
 use hv_cpu::{Cpu, Mode};

@@ -69,22 +69,3 @@ pub fn hex8(word: u32) -> [u8; 8]
         Err(_) => unreachable!(),
     }
 }
-
-#[cfg(test)]
-mod tests {
-    use super::*;
-    use std::test::Fail;
-
-    #[test]
-    fn writes_numbers_and_words(rt: HostRuntime) -> Result<(), Fail> {
-        let mut text = Vec::new(rt.alloc());
-        put_number(&mut text, b"most ", u64::MAX)?;
-        put_words(&mut text, &[0x0123_ABCD, 0x4567_89EF])?;
-        put_line(&mut text, b"")?;
-        assert_eq!(rt;
-            text.as_slice(),
-            b"most 18446744073709551615 0123abcd 456789ef\n".as_slice()
-        );
-        Ok(())
-    }
-}

@@ -6,6 +6,3 @@ mod copying;
 
 pub use alone::bare_run;
 pub use copying::seen;
-
-#[cfg(test)]
-mod tests;

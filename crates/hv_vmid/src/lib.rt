@@ -4,6 +4,3 @@
 mod ids;
 
 pub use ids::{IDS, IdEnd, Ids};
-
-#[cfg(test)]
-mod tests;

@@ -1,6 +1,7 @@
 -- What is found by following next.
-use Rattle.std.proofs.Common.{◌≡◌, ◌≢◌, ℕ, zero, suc, ◌+◌, ◌-◌, ◌<◌, Bool, true, false, cond, List, [], ◌∷◌, ◌++◌, length, map, Option, Some, None, refl, ap, ap₂, ◌∙◌, sym, arith, slice_get, length-append, append_assoc}
-use Rattle.std.proofs.lemmas.List.{append-nil, map-append}
+use Rattle.std.proofs.Common.{◌≡◌, ◌≢◌, ℕ, zero, suc, ◌+◌, ◌-◌, ◌<◌, Bool, true, false, cond, List, [], ◌∷◌, ◌++◌, length, map, Option, Some, None, nat_eq, refl, ap, ap₂, ◌∙◌, sym, arith, slice_get, length-append, append_assoc}
+use Rattle.std.proofs.lemmas.Bool.{eqb-true, eqb-false}
+use Rattle.std.proofs.lemmas.List.{append-nil, map-append, nil_from_length}
 use Rattle.hv_word.specs.Storage.{page_count}
 use Rattle.hv_cpu.specs.Regs.{Regs}
 use Rattle.hv_store.specs.declared.access.Refusal.{Refusal}
@@ -138,9 +139,16 @@ beyond_new S r = refl
 pub runs_none : (S : List ℕ) (r : Regs) → r.next ≡ 0 → [] ≡ running_path S r
 runs_none S r e = sym (follows_none depth_limit S (identity (page_count S)) 0 r e)
 
+-- a path without syllables, and no other, is the one that it then runs
+pub runs_empty : (S : List ℕ) (r : Regs) (p : List ℕ) (n : ℕ) → r.next ≡ 0 → n ≡ length p → nat_eq n 0 ≡ true → p ≡ running_path S r
+runs_empty S r p n e is z = nil_from_length p (sym is ∙ eqb-true n 0 z) ∙ runs_none S r e
+
+pub runs_other : (S : List ℕ) (r : Regs) (p : List ℕ) (n : ℕ) → r.next ≡ 0 → n ≡ length p → nat_eq n 0 ≡ false → p ≢ running_path S r
+runs_other S r p n e is nz q = eqb-false n 0 nz (is ∙ ap length (q ∙ sym (runs_none S r e)))
+
 -- the map of the bare machine
 pub length-map_new : (S : List ℕ) → length (map_along S []) ≡ page_count S
 unfolding map_along along
 length-map_new S = length-identity (page_count S)
 
-pub ruleset following = (beyond_none, beyond_deepest, beyond_malformed, beyond_refused, beyond_child, beyond_next, beyond_new, runs_none, chain_longer, length-map_new)
+pub ruleset following = (beyond_none, beyond_deepest, beyond_malformed, beyond_refused, beyond_child, beyond_next, beyond_new, runs_none, runs_empty, runs_other, chain_longer, length-map_new)

@@ -12,7 +12,7 @@ ghost use Rattle.hv_nest.specs.Move.{moved_of, running_of};
 
 use crate::notes::Notes;
 use crate::outcome::Outcome;
-use crate::step::host_step;
+use crate::step::host_step_into;
 use hv_cpu::{Cpu, reset};
 use hv_limits::HARTS;
 use hv_store::Store;
@@ -113,11 +113,10 @@ impl Harts {
         ensures count { length self.new ≡ length self.old }
         ensures len { length store.new ≡ length store.old }
     {
-        notes.clear();
-        *outcome = self.step(store, hart);
+        host_step_into(store, notes, &mut self.cpus[hart as usize], hart, outcome);
     }
 
-    /// One step of a hart. The next of each, if it has one, is a page of the storage.
+    /// The same with an outcome of its own.
     #[inline(always)]
     pub fn step(&mut self, store: &mut Store, hart: u32) -> Outcome
         requires hart { hart < length self.old }
@@ -130,6 +129,9 @@ impl Harts {
         ensures count { length self.new ≡ length self.old }
         ensures len { length store.new ≡ length store.old }
     {
-        host_step(store, &mut self.cpus[hart as usize], hart)
+        let mut notes = Notes::new();
+        let mut outcome = Outcome::none();
+        self.step_into(store, &mut notes, hart, &mut outcome);
+        outcome
     }
 }

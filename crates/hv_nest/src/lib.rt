@@ -22,4 +22,4 @@ pub use noting::{put_changed, put_cpu, put_fault};
 pub use outcome::{Outcome, StepKind};
 pub use plain::Plain;
 pub use running::path_of;
-pub use step::host_step;
+pub use step::{host_step, host_step_into};

@@ -6,18 +6,20 @@ ghost use Rattle.hv_nest.specs.Kinds.{NextBelow};
 
 use crate::harts::Harts;
 use crate::nested::Nested;
+use crate::notes::Notes;
 use crate::outcome::Outcome;
-use crate::running::path_of;
+use crate::running::{path_of, runs};
 use hv_cpu::Cpu;
 use hv_map::Path;
 use hv_store::Store;
 use std::marker::Model;
 
-/// A storage with harts, each of whose steps is found anew.
+/// A storage with harts, each of whose steps is found anew, with room for a step's notes.
 #[derive(Drop)]
 pub struct Plain {
     store: Store,
     harts: Harts,
+    notes: Notes,
 }
 
 impl Model for Plain {
@@ -40,7 +42,11 @@ impl Plain {
         requires { All (NextBelow (page_count store)) harts }
         ensures { result ≡ record { storage = store; harts = harts } }
     {
-        Plain { store, harts }
+        Plain {
+            store,
+            harts,
+            notes: Notes::new(),
+        }
     }
 }
 
@@ -50,7 +56,8 @@ impl Nested for Plain {
     #[inline(always)]
     fn step_into(&mut self, hart: u32, outcome: &mut Outcome) {
         let _pages = self.store.pages();
-        *outcome = self.harts.step(&mut self.store, hart);
+        self.harts
+            .step_into(&mut self.store, &mut self.notes, hart, outcome);
     }
 
     fn lines(&mut self, hart: u32, mask: u32) {
@@ -61,8 +68,9 @@ impl Nested for Plain {
         path_of(&self.store, self.harts.at(hart))
     }
 
+    #[inline(always)]
     fn runs(&self, hart: u32, path: &Path) -> bool {
-        path_of(&self.store, self.harts.at(hart)).as_slice() == path.as_slice()
+        runs(&self.store, self.harts.at(hart), path)
     }
 
     fn cpu(&self, hart: u32) -> Cpu {

@@ -1,6 +1,6 @@
 //! Which machine a hart runs.
 
-ghost use Rattle.std.specs.Prelude.{◌≡◌, length};
+ghost use Rattle.std.specs.Prelude.{◌≡◌, ◌≢◌, true, false, length};
 ghost use Rattle.hv_word.specs.Storage.{page_count};
 ghost use Rattle.hv_map.specs.Chain.{map_along, running_path};
 ghost use Rattle.hv_nest.specs.Kinds.{NextBelow};
@@ -22,6 +22,30 @@ pub fn path_of(store: &Store, cpu: &Cpu) -> Path
         return Path::new();
     }
     follow(store, &Chain::new(), cpu)
+}
+
+/// Whether a hart with these registers runs the machine on this path, or, on the empty path, none.
+#[inline(always)]
+#[tactic(auto, using(crate::proofs::Follows::following))]
+pub(crate) fn runs(store: &Store, cpu: &Cpu, path: &Path) -> bool
+    requires { NextBelow (page_count store.now) cpu.now }
+    ensures yes { result ≡ true → path.now ≡ running_path store.now cpu.now }
+    ensures no { result ≡ false → path.now ≢ running_path store.now cpu.now }
+{
+    if entered(cpu).is_none() {
+        return path.len() == 0;
+    }
+    runs_at(store, cpu, path)
+}
+
+// The same by the whole path, where the hart runs a machine.
+#[inline(never)]
+fn runs_at(store: &Store, cpu: &Cpu, path: &Path) -> bool
+    requires { NextBelow (page_count store.now) cpu.now }
+    ensures yes { result ≡ true → path.now ≡ running_path store.now cpu.now }
+    ensures no { result ≡ false → path.now ≢ running_path store.now cpu.now }
+{
+    path_of(store, cpu).as_slice() == path.as_slice()
 }
 
 // The chain's path with what is found from there on by following next, where the last machine has these registers.

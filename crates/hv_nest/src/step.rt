@@ -15,7 +15,6 @@ ghost use Rattle.hv_store.specs.Access.{identity};
 ghost use Rattle.hv_nest.specs.Step.{Worked, idle, interrupt_of, act_step, tell_of, too_deep, malformed, step_of, host_step_of};
 ghost use Rattle.hv_nest.specs.Kinds.{step_as, step_result, NextBelow};
 
-use crate::changed::Changed;
 use crate::notes::Notes;
 use crate::noting::{Noting, NotingBare, put_cpu, put_fault};
 use crate::outcome::{Outcome, StepKind};
@@ -26,7 +25,32 @@ use hv_limits::DEPTH;
 use hv_map::{Chain, Found, child};
 use hv_store::{Access, Refusal, Store};
 
-/// One step of a hart of the bare machine, whose next, if it has one, is a page of the storage.
+/// One step of a hart of the bare machine, told in `outcome` in place of what that told; `notes` is room for it. The hart's next,
+/// if it has one, is a page of the storage.
+#[inline(always)]
+pub fn host_step_into(
+    store: &mut Store,
+    notes: &mut Notes,
+    cpu: &mut Cpu,
+    hart: u32,
+    outcome: &mut Outcome,
+)
+    requires { NextBelow (page_count store.old) cpu.old }
+    ensures steps { step_as outcome.new.kind store.new cpu.new ≡ host_step_of store.old hart cpu.old }
+    ensures changed { outcome.new.changed ≡ differences store.old store.new }
+    ensures frame { IsFramedBy store.old (running_path store.old cpu.old) store.new }
+    ensures next { NextBelow (page_count store.old) cpu.new }
+    ensures len { length store.new ≡ length store.old }
+{
+    notes.clear();
+    if entered(cpu).is_some() {
+        inner_step(store, notes, cpu, hart, outcome);
+    } else {
+        bare_step(store, notes, cpu, hart, outcome);
+    }
+}
+
+/// The same with an outcome of its own.
 #[inline(always)]
 pub fn host_step(store: &mut Store, cpu: &mut Cpu, hart: u32) -> Outcome
     requires { NextBelow (page_count store.old) cpu.old }
@@ -36,58 +60,51 @@ pub fn host_step(store: &mut Store, cpu: &mut Cpu, hart: u32) -> Outcome
     ensures next { NextBelow (page_count store.old) cpu.new }
     ensures len { length store.new ≡ length store.old }
 {
-    if entered(cpu).is_some() {
-        inner_step(store, cpu, hart)
-    } else {
-        bare_step(store, cpu, hart)
-    }
+    let mut notes = Notes::new();
+    let mut outcome = Outcome::none();
+    host_step_into(store, &mut notes, cpu, hart, &mut outcome);
+    outcome
 }
 
 // The same where the hart runs a machine. It needs much more room than a step of the bare machine alone.
 #[inline(never)]
 #[tactic(auto, using(crate::proofs::Rows::hosting))]
-fn inner_step(store: &mut Store, cpu: &mut Cpu, hart: u32) -> Outcome
-    requires { NextBelow (page_count store.old) cpu.old }
-    ensures steps { step_as result.kind store.new cpu.new ≡ host_step_of store.old hart cpu.old }
-    ensures changed { result.changed ≡ differences store.old store.new }
+fn inner_step(store: &mut Store, notes: &mut Notes, cpu: &mut Cpu, hart: u32, outcome: &mut Outcome)
+    requires fresh { notes.old ≡ [] }
+    requires next { NextBelow (page_count store.old) cpu.old }
+    ensures steps { step_as outcome.new.kind store.new cpu.new ≡ host_step_of store.old hart cpu.old }
+    ensures changed { outcome.new.changed ≡ differences store.old store.new }
     ensures frame { IsFramedBy store.old (running_path store.old cpu.old) store.new }
     ensures next { NextBelow (page_count store.old) cpu.new }
     ensures len { length store.new ≡ length store.old }
 {
-    let mut notes = Notes::new();
-    match step_at(store, &mut notes, &Chain::new(), hart, cpu) {
-        Ok(kind) => Outcome {
-            kind,
-            changed: notes.changed(store),
-        },
+    match step_at(store, notes, &Chain::new(), hart, cpu) {
+        Ok(kind) => outcome.kind = kind,
         Err(_) => unreachable!(),
     }
+    notes.tell(store, &mut outcome.changed);
 }
 
 // The same where the hart runs no machine.
 #[inline(always)]
 #[tactic(auto, using(crate::proofs::Rows::hosting))]
-fn bare_step(store: &mut Store, cpu: &mut Cpu, hart: u32) -> Outcome
-    requires { cpu.old.next ≡ 0 }
-    ensures steps { step_as result.kind store.new cpu.new ≡ host_step_of store.old hart cpu.old }
-    ensures changed { result.changed ≡ differences store.old store.new }
+fn bare_step(store: &mut Store, notes: &mut Notes, cpu: &mut Cpu, hart: u32, outcome: &mut Outcome)
+    requires fresh { notes.old ≡ [] }
+    requires idle { cpu.old.next ≡ 0 }
+    ensures steps { step_as outcome.new.kind store.new cpu.new ≡ host_step_of store.old hart cpu.old }
+    ensures changed { outcome.new.changed ≡ differences store.old store.new }
     ensures frame { IsFramedBy store.old (running_path store.old cpu.old) store.new }
     ensures next { NextBelow (page_count store.old) cpu.new }
     ensures len { length store.new ≡ length store.old }
 {
+    outcome.kind = StepKind::Worked;
     if let Some(cause) = pending(cpu) {
         take_trap(cpu, cause, true, 0);
-        return Outcome {
-            kind: StepKind::Worked,
-            changed: Changed::none(),
-        };
+        outcome.changed.clear();
+        return;
     }
-    let mut notes = Notes::new();
-    act_bare(store, &mut notes, hart, cpu);
-    Outcome {
-        kind: StepKind::Worked,
-        changed: notes.changed(store),
-    }
+    act_bare(store, notes, hart, cpu);
+    notes.tell(store, &mut outcome.changed);
 }
 
 // One instruction of the bare machine.

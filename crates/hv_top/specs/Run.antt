@@ -5,6 +5,7 @@ use Rattle.hv_job.specs.declared.job.Job.{Job}
 use Rattle.hv_line.specs.declared.kinds.JobKind.{JobKind}
 use Rattle.hv_load.specs.Build.{build_of}
 use Rattle.hv_load.specs.declared.ends.BuildKind.{BuildKind}
+use Rattle.hv_load.specs.declared.start.Plan.{Plan}
 use Rattle.hv_load.specs.declared.start.Start.{Start}
 use Rattle.hv_nest.specs.State.{State}
 use Rattle.hv_nest.specs.Move.{Move, last_of}
@@ -19,6 +20,10 @@ use Rattle.hv_top.specs.Shown.{AreShown}
 -- the state of the bare machine at a start
 abbrev pub state_of : Start → State
 state_of start = record { storage = start.store; harts = start.harts }
+
+-- the start whose state and plan these are
+abbrev pub start_at : State → Plan → Start
+start_at state plan = record { store = state.storage; harts = state.harts; plan = plan }
 
 -- what a play of these moves from a start tells
 abbrev pub record_on : List Move → Start → PlayRecord

@@ -32,7 +32,7 @@ pub fn answer_to(alloc: Global, command: Command, input: &[u8]) -> Result<Answer
     ensures accepted { IfOk result (λ answer. reads_input command ≡ false → answer.refused ≡ false) }
 {
     match command {
-        Command::Run { plain: _ } => reported(alloc, input),
+        Command::Run { plain } => reported(alloc, input, plain),
         Command::Check => checked(alloc, input),
         Command::Asm => assembled(alloc, input),
         Command::Dis => disassembled(alloc, input),

@@ -14,7 +14,7 @@ ghost use Rattle.hv_report.specs.Check.{checked_watch, checked_watches, twin_wor
 ghost use Rattle.hv_run.specs.Record.{schedule};
 ghost use Rattle.hv_top.specs.Answer.{output_in};
 ghost use Rattle.hv_top.specs.Check.{IsRow, check_on, check_output, start_state};
-ghost use Rattle.hv_top.specs.Run.{PlayIsPromised, TextIsPromised, state_of};
+ghost use Rattle.hv_top.specs.Run.{PlayIsPromised, TextIsPromised, record_on, state_of};
 ghost use Rattle.hv_word.specs.Storage.{page_count};
 
 use crate::answer::{Answer, written};
@@ -25,8 +25,9 @@ use hv_cpu::Cpu;
 use hv_job::Job;
 use hv_load::{BuildEnd, Start, build};
 use hv_map::pin;
+use hv_nest::Plain;
 use hv_report::{has_twin, put_checked};
-use hv_run::WatchRow;
+use hv_run::{Record, WatchRow};
 use hv_store::Store;
 use hv_text::put;
 use hv_twin::{bare_run, seen};
@@ -55,12 +56,26 @@ fn compared(alloc: Global, job: &Job, start: Start) -> Result<Vec<u8>, AllocErro
     ensures text { IfOk result (λ text. text.items ≡ check_on job.now start) }
     ensures promised { OnOk result (PlayIsPromised (schedule job.now.recording) start) }
 {
-    // What was played is let go: each bare machine begins with the job, built anew.
-    let record = play_out(alloc, job, start)?.record;
+    let record = played(alloc, job, start)?;
     let mut text = Vec::new(alloc);
     put(&mut text, b"checked\n")?;
     put_watches(alloc, &mut text, job, record.watches.as_slice())?;
     Ok(text)
+}
+
+// What is told of the start of a job, which is played to the end of the schedule by the plain engine. What was played is let
+// go: each bare machine begins with the job, built anew.
+fn played(alloc: Global, job: &Job, start: Start) -> Result<Record, AllocError>
+    requires job { IsJob job.now }
+    requires built { build_of job.now ≡ Ok start }
+    requires ready { IsReady job.now start }
+    ensures told { IfOk result (λ r. r ≡ record_on (schedule job.now.recording) start) }
+    ensures rows { IfOk result (λ r. All (IsRow (state_of start)) r.watches) }
+    ensures promised { OnOk result (PlayIsPromised (schedule job.now.recording) start) }
+{
+    let Start { store, harts, plan } = start;
+    let mut plain = Plain::new(store, harts);
+    play_out(alloc, job, &mut plain, &plan)
 }
 
 // Appends each watch, and the lines of the bare machine beside it.

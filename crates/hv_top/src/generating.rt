@@ -12,6 +12,7 @@ ghost use Rattle.hv_top.specs.Run.{PlayIsPromised, JobIsPromised};
 
 use crate::answer::{Answer, written};
 use crate::playing::play_out;
+use hv_fast::Fast;
 use hv_job::Job;
 use hv_load::{BuildEnd, DEPTHS, Start, build, gen_job};
 use hv_report::summary;
@@ -36,7 +37,7 @@ pub fn generated(alloc: Global, number: u32) -> Result<Answer, AllocError>
     }
 }
 
-// The summary of the start of a job, which is played to the end of the schedule.
+// The summary of the start of a job, which is played to the end of the schedule by the fast engine.
 fn summed(alloc: Global, number: u32, job: &Job, start: Start) -> Result<Vec<u8>, AllocError>
     requires job { IsJob job.now }
     requires built { build_of job.now ≡ Ok start }
@@ -44,6 +45,8 @@ fn summed(alloc: Global, number: u32, job: &Job, start: Start) -> Result<Vec<u8>
     ensures text { IfOk result (λ text. text.items ≡ summary_on number job.now start) }
     ensures promised { OnOk result (PlayIsPromised (schedule job.now.recording) start) }
 {
-    let mut end = play_out(alloc, job, start)?;
-    summary(alloc, &mut end.plain, &end.record, number, number % DEPTHS)
+    let Start { store, harts, plan } = start;
+    let mut fast = Fast::new(alloc, store, harts)?;
+    let record = play_out(alloc, job, &mut fast, &plan)?;
+    summary(alloc, &mut fast, &record, number, number % DEPTHS)
 }

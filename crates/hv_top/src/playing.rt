@@ -8,45 +8,35 @@ ghost use Rattle.hv_nest.specs.Move.{last_of};
 ghost use Rattle.hv_report.specs.Report.{AreInState};
 ghost use Rattle.hv_run.specs.Record.{schedule};
 ghost use Rattle.hv_top.specs.Check.{IsRow};
-ghost use Rattle.hv_top.specs.Run.{PlayIsPromised, state_of, record_on};
+ghost use Rattle.hv_top.specs.Run.{PlayIsPromised, record_on, start_at};
 
 use hv_job::Job;
-use hv_load::{Plan, Start};
-use hv_nest::Plain;
+use hv_load::Plan;
+use hv_nest::Nested;
 use hv_run::{Record, play};
 use std::alloc::{AllocError, Global};
 
-/// The bare machine at the end of a job's schedule, the job's plan, and what is told of the play.
-#[derive(Drop)]
-pub struct Ending {
-    pub plain: Plain,
-    pub plan: Plan,
-    pub record: Record,
-}
-
-/// Plays the start of a job to the end of the job's schedule.
-pub fn play_out(alloc: Global, job: &Job, start: Start) -> Result<Ending, AllocError>
+/// Plays a job to the end of its schedule, by an engine that is in the state of the job's start, and answers what is told of
+/// the play.
+pub fn play_out<N: Nested>(
+    alloc: Global,
+    job: &Job,
+    nested: &mut N,
+    plan: &Plan,
+) -> Result<Record, AllocError>
     requires job { IsJob job.now }
-    requires built { build_of job.now ≡ Ok start }
-    requires ready { IsReady job.now start }
-    ensures state { IfOk result (λ end. end.plain ≡ last_of (state_of start) (schedule job.now.recording)) }
-    ensures plan { IfOk result (λ end. end.plan ≡ start.plan) }
-    ensures told { IfOk result (λ end. end.record ≡ record_on (schedule job.now.recording) start) }
-    ensures there { IfOk result (λ end. AreInState end.plain (end.record).watches) }
-    ensures rows { IfOk result (λ end. All (IsRow (state_of start)) (end.record).watches) }
-    ensures promised { OnOk result (PlayIsPromised (schedule job.now.recording) start) }
+    requires built { build_of job.now ≡ Ok (start_at (N.state nested.old) plan.now) }
+    requires ready { IsReady job.now (start_at (N.state nested.old) plan.now) }
+    ensures state { OnOk result (N.state nested.new ≡ last_of (N.state nested.old) (schedule job.now.recording)) }
+    ensures told { IfOk result (λ r. r ≡ record_on (schedule job.now.recording) (start_at (N.state nested.old) plan.now)) }
+    ensures there { IfOk result (λ r. AreInState (N.state nested.new) r.watches) }
+    ensures rows { IfOk result (λ r. All (IsRow (N.state nested.old)) r.watches) }
+    ensures promised { OnOk result (PlayIsPromised (schedule job.now.recording) (start_at (N.state nested.old) plan.now)) }
 {
-    let Start { store, harts, plan } = start;
-    let mut plain = Plain::new(store, harts);
-    let record = play(
+    play(
         alloc,
-        &mut plain,
+        nested,
         job.recording.events(),
         plan.watches.as_slice(),
-    )?;
-    Ok(Ending {
-        plain,
-        plan,
-        record,
-    })
+    )
 }

@@ -9,8 +9,8 @@ use Rattle.hv_top.proofs.check.compared.Goals as goal
 pub put_watches-requires-clause-rows : goal.put_watches-requires-clause-rows
 unfolding start_state
 put_watches-requires-clause-rows c =
-    let end = c.in_ok-record in
+    let played = c.in_ok-record in
     let begun : start_state c.args.job.now ≡ state_of c.args.start = ap built_state c.requires.built in
-    let watches : c.as_slice.result.now ≡ end.field-0.record.watches = c.as_slice.ensures ∙ ap (λ (t : PlayRecord). t.watches) c.record.view_is in
+    let watches : c.as_slice.result.now ≡ played.record.watches = c.as_slice.ensures ∙ ap (λ (t : PlayRecord). t.watches) c.record.view_is in
     subst (λ (st : State). All (IsRow st) c.as_slice.result.now) (sym begun)
-    (subst (λ (ws : List WatchRecord). All (IsRow (state_of c.args.start)) ws) (sym watches) end.ensures.rows)
+    (subst (λ (ws : List WatchRecord). All (IsRow (state_of c.args.start)) ws) (sym watches) played.ensures.rows)

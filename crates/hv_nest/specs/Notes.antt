@@ -1,5 +1,5 @@
 -- What words of a storage were before a step changed them, told by notes.
-use Rattle.std.specs.Prelude.{◌≡◌, ℕ, ◌+◌, ◌<◌, Bool, true, false, not, ◌&&◌, ◌==◌, nat_lt, List, [], ◌∷◌, length, slice_index, slice_set}
+use Rattle.std.specs.Prelude.{◌≡◌, ℕ, Bool, true, false, not, ◌&&◌, ◌==◌, nat_lt, List, [], ◌∷◌, length, slice_index, slice_set}
 use Rattle.std.specs.List.{list_any}
 use Rattle.hv_nest.specs.declared.notes.Note.{Note}
 
@@ -23,7 +23,3 @@ is_exact T [] = true
 is_exact T (n ∷ notes) =
     nat_lt n.at (length T)
     && (not (n.before == slice_index T n.at) && (not (is_noted n.at notes) && is_exact T notes))
-
--- the words ws stand in S from place i on
-abbrev pub StandsAt : List ℕ → ℕ → List ℕ → Type 0
-StandsAt S i ws = (k : ℕ) → k < length ws → slice_index S (i + k) ≡ slice_index ws k

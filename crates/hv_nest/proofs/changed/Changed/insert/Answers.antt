@@ -12,10 +12,11 @@ invariant_of-self c =
     let rows : List ChangedRow = c.self.inside.rows in
     let short : n ≤ length rows = omega (arith, c.self.invariant.0, c.self.invariant.1) in
     let room : n < 8 = omega (arith, c.requires, ap length c.self.view_is, length-take-le n rows short) in
-    let put = c.put_among-last.ensures in
-    (omega (arith, room),
-    length_inserted rows c.put_among-last.new.rows _ n c.args.row c.put_among-last.result room c.self.invariant.1 c.self.invariant.2 refl put,
-    rest_inserted rows c.put_among-last.new.rows _ n c.args.row c.put_among-last.result room c.self.invariant.1 c.self.invariant.2 refl put)
+    let put = c.put_among-last.ensures in (
+      omega (arith, room),
+      length_inserted rows c.put_among-last.new.rows _ n c.args.row c.put_among-last.result room c.self.invariant.1 c.self.invariant.2 refl put,
+      rest_inserted rows c.put_among-last.new.rows _ n c.args.row c.put_among-last.result room c.self.invariant.1 c.self.invariant.2 refl put,
+    )
 
 pub returns : goal.returns
 returns c =

@@ -14,7 +14,8 @@ invariant_of-self c =
     let short : n ≤ length items = omega (arith, c.self.invariant.0, c.self.invariant.1) in
     let room : n < 8 = omega (arith, c.requires.room, ap length c.self.view_is, length-take-le n items short) in
     let inside : n < length items = omega (arith, room, c.self.invariant.1) in
-    let free : is_noted note.at (take n items) ≡ false = ap (is_noted note.at) c.self.view_is ∙ c.requires.other in
-    (omega (arith, room),
-    length-set items n note ∙ c.self.invariant.1,
-    subst AreApart (sym (take_more_set items n note inside)) (apart_more (take n items) note free c.self.invariant.2))
+    let free : is_noted note.at (take n items) ≡ false = ap (is_noted note.at) c.self.view_is ∙ c.requires.other in (
+      omega (arith, room),
+      length-set items n note ∙ c.self.invariant.1,
+      subst AreApart (sym (take_more_set items n note inside)) (apart_more (take n items) note free c.self.invariant.2),
+    )

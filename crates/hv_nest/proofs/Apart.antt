@@ -1,19 +1,11 @@
 -- Notes of different places.
-use Rattle.std.proofs.Common.{◌≡◌, ◌≢◌, ℕ, zero, suc, ◌+◌, ◌<◌, ◌≤◌, Bool, true, false, List, [], ◌∷◌, ◌++◌, length, take, get_or, refl, ap, ◌∙◌, sym, subst}
+use Rattle.std.proofs.Common.{◌≡◌, ◌≢◌, ℕ, zero, suc, ◌+◌, ◌<◌, ◌≤◌, false, List, [], ◌∷◌, ◌++◌, length, take, get_or, refl, ap, ◌∙◌, sym, subst}
 use Rattle.std.specs.Prelude.{◌==◌, ◌||◌}
 use Rattle.std.proofs.lemmas.List.{take_more, take-take}
 use Rattle.std.proofs.lemmas.Bool.{ne_eqb, eqb-false}
 use Rattle.hv_nest.specs.declared.notes.Note.{Note}
 use Rattle.hv_nest.specs.Notes.{is_noted, AreApart}
-use Rattle.hv_nest.proofs.Undone.{noted_apart}
-
-true-false : true ≡ false → ⊥
-true-false e = cc
-
--- a place that isn't noted is none of the places of two parts
-pub or_parts : (s t : Bool) → (s || t) ≡ false → (s ≡ false) × (t ≡ false)
-or_parts true t z = absurd (true-false z)
-or_parts false t z = (refl, z)
+use Rattle.hv_nest.proofs.Undone.{noted_apart, or_parts}
 
 -- one more note, of a place that isn't noted
 pub apart_more : (notes : List Note) (m : Note) → is_noted m.at notes ≡ false → AreApart notes → AreApart (notes ++ m ∷ [])
@@ -54,6 +46,7 @@ apart_take (suc k) (n ∷ notes) h = (not_among k notes n.at h.0, apart_take k n
         let parts = or_parts (n.at == a) (is_noted a ns) e in
         ap (λ t. t || is_noted a (take k ns)) parts.0 ∙ not_among k ns a parts.1
 
+-- the first of them, and of these the first again
 pub apart_fewer : (notes : List Note) (k n : ℕ) → k ≤ n → AreApart (take n notes) → AreApart (take k notes)
 apart_fewer notes k n le h = subst AreApart (take-take k n notes le) (apart_take k (take n notes) h)
 

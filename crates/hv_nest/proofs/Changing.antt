@@ -3,12 +3,13 @@ use Rattle.std.proofs.Common.{◌≡◌, ◌≢◌, ℕ, zero, suc, ◌+◌, ◌
 use Rattle.std.specs.Prelude.{◌==◌}
 use Rattle.std.proofs.Math.Seq.{sets, drop-cons}
 use Rattle.std.proofs.lemmas.List.{drop-set-lt, get_or-drop, length-drop, set-get_or}
-use Rattle.std.proofs.lemmas.Bool.{eq-eqb, eqb-false, eqb-true, ne_eqb}
+use Rattle.std.proofs.lemmas.Bool.{eq-eqb, eqb-true, ne_eqb}
 use Rattle.hv_cpu.specs.Regs.{Regs, file_of}
 use Rattle.hv_block.specs.Block.{put_regs, regs_at}
 use Rattle.hv_exec.specs.Changes.{changed_regs, differing}
 use Rattle.hv_nest.specs.Noted.{control_of}
 use Rattle.hv_nest.proofs.Puts.{block_changes, count_step, differing_more, differing_nil, differing_part, room_step}
+use Rattle.hv_nest.proofs.Undone.{same_or_other}
 
 -- a word that is another is counted
 differing_here : (xs ws : List ℕ) (i : ℕ) → i < length xs → i < length ws → get_or xs i 0 ≢ get_or ws i 0 → 1 ≤ differing xs ws
@@ -36,6 +37,7 @@ differing_first : (S ws : List ℕ) (at w : ℕ) → at < length S → differing
 unfolding differing
 differing_first S ws at w inside = ap (λ (xs : List ℕ). differing xs (w ∷ ws)) (drop-cons S at 0 inside)
 
+-- the first word is there already
 first_same : (S ws : List ℕ) (at w : ℕ) → get_or S at 0 ≡ w → sets S at (w ∷ ws) ≡ sets S (suc at) ws
 first_same S ws at w e =
     ap (λ (v : ℕ). sets (set S at v) (suc at) ws) (sym e) ∙ ap (λ (T : List ℕ). sets T (suc at) ws) (set-get_or S at 0)
@@ -51,13 +53,6 @@ module _ (S ws : List ℕ) (at w n : ℕ) (inside : at < length S) (count : diff
   behind_other ne =
       let first : differing (drop at S) (w ∷ ws) ≡ 1 + differing (drop (suc at) S) ws = differing_first S ws at w inside ∙ ap (λ (t : Bool). cond t 0 1 + differing (drop (suc at) S) ws) (ne_eqb (get_or S at 0) w ne) in
       omega (arith, first, count)
-
-same_or_other : (x y : ℕ) → (P : Type 0) → (x ≡ y → P) → (x ≢ y → P) → P
-same_or_other x y P same other = by (x == y) refl
-  where
-    by : (t : Bool) → (x == y) ≡ t → P
-    by true e = same (eqb-true x y e)
-    by false e = other (eqb-false x y e)
 
 -- where no word is another nothing is put
 pub sets_same : (S ws : List ℕ) (at : ℕ) → at + length ws ≤ length S → differing (drop at S) ws ≡ 0 → sets S at ws ≡ S
@@ -95,17 +90,19 @@ sets_one S (w ∷ ws) at (suc k) long one lt ne =
     ∙ ap (λ (j : ℕ). set S j (get_or ws k 0)) next)
     (λ other. absurd (omega (arith, behind_other S ws at w 1 inside one other, differing_here (drop (suc at) S) ws k in_range shorter (λ q. far (sym (get_or-drop (suc at) S k 0) ∙ q)))))
 
--- one word of a row: there is room where it changes, and few are noted after it
+-- one word of a row: there is room where it changes
 pub likely_room : (O ws : List ℕ) (at k place n : ℕ) → place ≡ at + k → k < length ws → at + length ws ≤ length O → n + differing (drop at O) ws ≤ 8 → get_or O place 0 ≢ get_or ws k 0 → n < 8
 likely_room O ws at k place n p lt long room ne =
     let few : n ≤ n + differing (drop at O) (take k ws) = omega arith in
     room_step O ws at k place n n p lt long few room ne
 
+-- and then few are noted
 pub likely_count : (O ws : List ℕ) (at k place n m : ℕ) → place ≡ at + k → k < length ws → at + length ws ≤ length O → m ≤ n + 1 → (get_or O place 0 ≡ get_or ws k 0 → m ≡ n) → m ≤ n + differing (drop at O) ws
 likely_count O ws at k place n m p lt long more same =
     let few : n ≤ n + differing (drop at O) (take k ws) = omega arith in
     omega (arith, count_step O ws at k place n m n p lt long few more same, differing_part (drop at O) ws (k + 1))
 
+-- two rows, one behind the other
 pub sets_append : (us vs S : List ℕ) (i : ℕ) → sets S i (us ++ vs) ≡ sets (sets S i us) (i + length us) vs
 sets_append [] vs S i = let e : i ≡ i + 0 = omega arith in ap (λ (k : ℕ). sets S k vs) e
 sets_append (u ∷ us) vs S i =

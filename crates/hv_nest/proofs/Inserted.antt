@@ -13,6 +13,7 @@ pub with_lesser : (row r : ChangedRow) (rows : List ChangedRow) → row.at < r.a
 unfolding with_row
 with_lesser row r rows lt = ap (λ (t : Bool). cond t (row ∷ with_row r rows) (r ∷ with_row row rows)) (lt-ltb row.at r.at lt)
 
+-- and behind those of the same or lower places
 pub with_greater : (row r : ChangedRow) (rows : List ChangedRow) → r.at ≤ row.at → with_row row (r ∷ rows) ≡ r ∷ with_row row rows
 unfolding with_row
 with_greater row r rows le = by (nat_lt row.at r.at) refl
@@ -21,7 +22,7 @@ with_greater row r rows le = by (nat_lt row.at r.at) refl
     by true e = absurd (omega (arith, ltb-true row.at r.at e, le))
     by false e = refl
 
--- one row more at most
+-- there is one row more
 pub length-with_row : (row : ChangedRow) (rows : List ChangedRow) → length (with_row row rows) ≡ suc (length rows)
 unfolding with_row
 length-with_row row [] = refl
@@ -40,6 +41,7 @@ all_wiped rows wiped m n few is e rest =
     ∙ replicate-append-replicate n (8 - n) no_row
     ∙ ap (λ (k : ℕ). replicate k no_row) all
 
+-- one more row is wiped
 pub wipe_more : (old rows : List ChangedRow) (i : ℕ) → i < length old → rows ≡ replicate i no_row ++ drop i old → set rows i no_row ≡ replicate (i + 1) no_row ++ drop (i + 1) old
 wipe_more old rows i lt e =
     ap (λ (xs : List ChangedRow). set xs i no_row) (e ∙ ap (λ (xs : List ChangedRow). replicate i no_row ++ xs) (drop-cons old i no_row lt))
@@ -56,6 +58,7 @@ drop_row z rows n k row lt e =
     ∙ ap (λ (m : ℕ). drop m rows) (add-one n)
     ∙ ap (drop 1) (sym (drop-cons rows n z lt) ∙ e)
 
+-- a row is put among the first n of the rows, and the last of them behind these
 module _ (rows front old : List ChangedRow) (n : ℕ) (row last : ChangedRow) (room : n < 8) (long : length rows ≡ 8) (rest : drop n rows ≡ replicate (8 - n) no_row) (is : old ≡ take n rows) (put : front ++ last ∷ [] ≡ with_row row old) where
   length-front : length front ≡ n
   length-front = omega (arith, length-append front (last ∷ []), ap length put, length-with_row row old, ap length is, length-take-le n rows (omega arith))
@@ -80,7 +83,7 @@ module _ (rows front old : List ChangedRow) (n : ℕ) (row last : ChangedRow) (r
       ∙ put
       ∙ ap (with_row row) is
 
--- the row at place i is passed, and takes the place of the one that is put, or leaves it to go on
+-- the row at place i gives its place to the one that is put, and goes on in its stead
 pub lesser_passed : (rows : List ChangedRow) (i : ℕ) (m d : ChangedRow) → i < length rows → m.at < (get_or rows i d).at → take i rows ++ with_row m (drop i rows) ≡ take (i + 1) (set rows i m) ++ with_row (get_or rows i d) (drop (i + 1) (set rows i m))
 lesser_passed rows i m d lt below =
     let r : ChangedRow = get_or rows i d in
@@ -91,6 +94,7 @@ lesser_passed rows i m d lt below =
     ∙ ap (λ (xs : List ChangedRow). xs ++ with_row r (drop (suc i) rows)) (sym (take_more_set rows i m lt))
     ∙ ap (λ (xs : List ChangedRow). take (i + 1) (set rows i m) ++ with_row r xs) (ap (λ (k : ℕ). drop k rows) (sym (add-one i)) ∙ sym (drop-set-lt (i + 1) rows i m next))
 
+-- or it stays where it is
 pub greater_passed : (rows : List ChangedRow) (i : ℕ) (m d : ChangedRow) → i < length rows → (get_or rows i d).at ≤ m.at → take i rows ++ with_row m (drop i rows) ≡ take (i + 1) rows ++ with_row m (drop (i + 1) rows)
 greater_passed rows i m d lt above =
     let r : ChangedRow = get_or rows i d in

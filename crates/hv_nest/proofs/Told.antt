@@ -10,9 +10,9 @@ use Rattle.hv_nest.specs.Changes.{difference_at, differences_to}
 use Rattle.hv_nest.specs.Noted.{told_too}
 use Rattle.hv_nest.specs.Notes.{undone, is_noted, AreApart}
 use Rattle.hv_nest.specs.Rows.{with_row}
-use Rattle.hv_nest.proofs.Apart.{or_parts, apart_at}
+use Rattle.hv_nest.proofs.Apart.{apart_at}
 use Rattle.hv_nest.proofs.Inserted.{with_lesser, with_greater, length-with_row}
-use Rattle.hv_nest.proofs.Undone.{length-undone, undone_at, undone-snoc}
+use Rattle.hv_nest.proofs.Undone.{length-undone, undone_at, undone-snoc, or_parts, same_or_other}
 
 -- a word that isn't noted is put before or after the others are put back
 undone_beside : (T : List ℕ) (notes : List Note) (a b : ℕ) → is_noted a notes ≡ false → undone (set T a b) notes ≡ set (undone T notes) a b
@@ -39,13 +39,6 @@ among_same S T i n e =
 among_other : (S T : List ℕ) (i n : ℕ) → get_or S i 0 ≢ get_or T i 0 → among S T i (suc n) ≡ row_of T i ∷ among S T (i + 1) n
 among_other S T i n ne =
     ap (λ (t : Bool). cond t [] (row_of T i ∷ []) ++ among S T (i + 1) n) (ne_eqb (get_or S i 0) (get_or T i 0) ne)
-
-same_or_other : (x y : ℕ) → (P : Type 0) → (x ≡ y → P) → (x ≢ y → P) → P
-same_or_other x y P same other = by (x == y) refl
-  where
-    by : (t : Bool) → (x == y) ≡ t → P
-    by true e = same (eqb-true x y e)
-    by false e = other (eqb-false x y e)
 
 row_before : (S T : List ℕ) (a i n : ℕ) → a < i → with_row (row_of T a) (among S T i n) ≡ row_of T a ∷ among S T i n
 unfolding with_row

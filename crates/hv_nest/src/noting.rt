@@ -138,8 +138,8 @@ impl Space for NotingBare<'_> {
     }
 }
 
-/// Puts the registers into the control block in bare page `page`, and notes what changes. Where `register` (1 to 31) is the one
-/// of x1 to x31 that changed, if any did, this is quicker than where it isn't.
+/// Puts the registers into the control block in bare page `page`, and notes what changes. Where `register` (1 to 31) is
+/// the one of x1 to x31 that changed, if any did, this is quicker than where it isn't.
 #[inline(always)]
 pub fn put_cpu(store: &mut Store, notes: &mut Notes, page: u32, cpu: &Cpu, register: u32)
     requires page { page < page_count store.old }
@@ -212,8 +212,8 @@ fn next_word(cpu: &Cpu) -> u32
     cpu.next.unwrap_or(0)
 }
 
-// Puts words from a place of the storage on, and notes what changes. Where the word of number `likely`, counted from 1, is the
-// one that changes, if any does, this is quicker than where it isn't.
+// Puts words from a place of the storage on, and notes what changes. Where the word of number `likely`, counted from 1,
+// is the one that changes, if any does, this is quicker than where it isn't.
 #[inline(always)]
 #[tactic(auto, using(crate::proofs::Changing::rows_put))]
 fn put_row(store: &mut Store, notes: &mut Notes, at: u32, words: &[u32], likely: u32)

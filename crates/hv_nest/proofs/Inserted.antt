@@ -6,7 +6,7 @@ use Rattle.std.proofs.Math.Numerals.{add-one}
 use Rattle.std.proofs.lemmas.List.{append_assoc, length-append, length-drop, length-replicate, length-take-le, replicate_more, replicate-append-replicate, set_at, take_at, drop_at, take_more, take_more_set, take_all, drop_all, drop-set-lt}
 use Rattle.std.proofs.lemmas.Bool.{lt-ltb, ltb-true}
 use Rattle.hv_nest.specs.declared.changed.ChangedRow.{ChangedRow}
-use Rattle.hv_nest.specs.Rows.{no_row, with_row}
+use Rattle.hv_nest.specs.Rows.{no_row, rows_limit, with_row}
 
 -- a row stands before those of greater places
 pub with_lesser : (row r : ChangedRow) (rows : List ChangedRow) → row.at < r.at → with_row row (r ∷ rows) ≡ row ∷ with_row r rows
@@ -33,12 +33,12 @@ length-with_row row (r ∷ rows) = by (nat_lt row.at r.at) (ap suc (length-with_
     by false lesser greater = greater
 
 -- rows that tell nothing stand in place of the first n, as behind them
-pub all_wiped : (rows wiped : List ChangedRow) (m n : ℕ) → n ≤ 8 → m ≡ n → wiped ≡ replicate m no_row → drop n rows ≡ replicate (8 - n) no_row → wiped ++ drop n rows ≡ replicate 8 no_row
+pub all_wiped : (rows wiped : List ChangedRow) (m n : ℕ) → n ≤ rows_limit → m ≡ n → wiped ≡ replicate m no_row → drop n rows ≡ replicate (rows_limit - n) no_row → wiped ++ drop n rows ≡ replicate rows_limit no_row
 all_wiped rows wiped m n few is e rest =
-    let all : n + (8 - n) ≡ 8 = omega arith in
+    let all : n + (rows_limit - n) ≡ rows_limit = omega arith in
     ap (λ (xs : List ChangedRow). xs ++ drop n rows) (e ∙ ap (λ (k : ℕ). replicate k no_row) is)
     ∙ ap (λ (xs : List ChangedRow). replicate n no_row ++ xs) rest
-    ∙ replicate-append-replicate n (8 - n) no_row
+    ∙ replicate-append-replicate n (rows_limit - n) no_row
     ∙ ap (λ (k : ℕ). replicate k no_row) all
 
 -- one more row is wiped
@@ -59,21 +59,21 @@ drop_row z rows n k row lt e =
     ∙ ap (drop 1) (sym (drop-cons rows n z lt) ∙ e)
 
 -- a row is put among the first n of the rows, and the last of them behind these
-module _ (rows front old : List ChangedRow) (n : ℕ) (row last : ChangedRow) (room : n < 8) (long : length rows ≡ 8) (rest : drop n rows ≡ replicate (8 - n) no_row) (is : old ≡ take n rows) (put : front ++ last ∷ [] ≡ with_row row old) where
+module _ (rows front old : List ChangedRow) (n : ℕ) (row last : ChangedRow) (room : n < rows_limit) (long : length rows ≡ rows_limit) (rest : drop n rows ≡ replicate (rows_limit - n) no_row) (is : old ≡ take n rows) (put : front ++ last ∷ [] ≡ with_row row old) where
   length-front : length front ≡ n
   length-front = omega (arith, length-append front (last ∷ []), ap length put, length-with_row row old, ap length is, length-take-le n rows (omega arith))
 
-  length-behind : length (front ++ drop n rows) ≡ 8
+  length-behind : length (front ++ drop n rows) ≡ rows_limit
   length-behind = omega (arith, length-append front (drop n rows), length-front, length-drop n rows)
 
-  pub length_inserted : length (set (front ++ drop n rows) n last) ≡ 8
+  pub length_inserted : length (set (front ++ drop n rows) n last) ≡ rows_limit
   length_inserted = length-set (front ++ drop n rows) n last ∙ length-behind
 
-  pub rest_inserted : drop (n + 1) (set (front ++ drop n rows) n last) ≡ replicate (8 - (n + 1)) no_row
+  pub rest_inserted : drop (n + 1) (set (front ++ drop n rows) n last) ≡ replicate (rows_limit - (n + 1)) no_row
   rest_inserted =
       let lt : n < length (front ++ drop n rows) = omega (arith, length-behind) in
-      let s : 8 - n ≡ suc (8 - (n + 1)) = omega arith in
-      drop_row no_row (front ++ drop n rows) n (8 - (n + 1)) last lt (drop_at front (drop n rows) n length-front ∙ rest ∙ ap (λ (k : ℕ). replicate k no_row) s)
+      let s : rows_limit - n ≡ suc (rows_limit - (n + 1)) = omega arith in
+      drop_row no_row (front ++ drop n rows) n (rows_limit - (n + 1)) last lt (drop_at front (drop n rows) n length-front ∙ rest ∙ ap (λ (k : ℕ). replicate k no_row) s)
 
   pub told_inserted : take (n + 1) (set (front ++ drop n rows) n last) ≡ with_row row (take n rows)
   told_inserted =

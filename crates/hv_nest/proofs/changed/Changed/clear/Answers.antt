@@ -2,7 +2,7 @@
 use Rattle.std.proofs.Common.{◌≡◌, ℕ, ◌≤◌, List, ◌++◌, length, drop, replicate, ap, arith}
 use Rattle.std.proofs.lemmas.List.{length-take-le}
 use Rattle.hv_nest.specs.declared.changed.ChangedRow.{ChangedRow}
-use Rattle.hv_nest.specs.Rows.{no_row}
+use Rattle.hv_nest.specs.Rows.{no_row, rows_limit}
 use Rattle.hv_nest.proofs.Inserted.{all_wiped}
 use Rattle.hv_nest.proofs.changed.Changed.clear.Goals as goal
 
@@ -11,5 +11,5 @@ invariant_of-self c =
     let n : ℕ = c.self.inside.len in
     let rows : List ChangedRow = c.self.inside.rows in
     let short : n ≤ length rows = omega (arith, c.self.invariant.0, c.self.invariant.1) in
-    let wiped : c.wipe.new.rows ++ drop n rows ≡ replicate 8 no_row = all_wiped rows c.wipe.new.rows _ n c.self.invariant.0 (length-take-le n rows short) c.wipe.ensures c.self.invariant.2 in
+    let wiped : c.wipe.new.rows ++ drop n rows ≡ replicate rows_limit no_row = all_wiped rows c.wipe.new.rows _ n c.self.invariant.0 (length-take-le n rows short) c.wipe.ensures c.self.invariant.2 in
     (omega arith, ap length wiped, wiped)

@@ -27,11 +27,10 @@ pub struct Notes {
 impl Model for Notes {
     ghost use Rattle.std.specs.Prelude.{◌≡◌, ◌≤◌, List, length, take};
     ghost use Rattle.hv_nest.specs.declared.notes.Note.{Note};
+    ghost use Rattle.hv_nest.specs.Notes.{AreApart};
+    ghost use Rattle.hv_nest.specs.Rows.{rows_limit};
 
     ghost Value = { List Note };
-
-    ghost use Rattle.hv_nest.specs.Rows.{rows_limit};
-    ghost use Rattle.hv_nest.specs.Notes.{AreApart};
 
     ghost view = { λ n. take n.len n.items };
 
@@ -62,6 +61,7 @@ impl Notes {
     }
 
     /// The notes in order.
+    #[inline(always)]
     pub fn as_slice(&self) -> &[Note]
         ensures items { result.now ≡ self.now }
         ensures bound { length result.now ≤ rows_limit }

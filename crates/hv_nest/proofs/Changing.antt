@@ -1,43 +1,134 @@
--- Putting registers where others stand, with notes.
-use Rattle.std.proofs.Common.{◌≡◌, ◌≢◌, ℕ, zero, suc, ◌+◌, ◌*◌, ◌<◌, ◌≤◌, Bool, true, false, cond, List, [], ◌∷◌, ◌++◌, length, drop, set, get_or, refl, ap, ◌∙◌, sym, arith}
+-- Putting registers part by part, with notes: what doesn't change is left alone.
+use Rattle.std.proofs.Common.{◌≡◌, ◌≢◌, ℕ, zero, suc, ◌+◌, ◌*◌, ◌<◌, ◌≤◌, Bool, true, false, cond, List, [], ◌∷◌, ◌++◌, length, take, drop, set, get_or, refl, ap, ◌∙◌, sym, arith, length-set}
 use Rattle.std.specs.Prelude.{◌==◌}
 use Rattle.std.proofs.Math.Seq.{sets, drop-cons}
-use Rattle.std.proofs.lemmas.List.{get_or-set_other, set-get_or}
-use Rattle.std.proofs.lemmas.Bool.{eqb-true, ne_eqb}
+use Rattle.std.proofs.lemmas.List.{drop-set-lt, get_or-drop, length-drop, set-get_or}
+use Rattle.std.proofs.lemmas.Bool.{eq-eqb, eqb-true, ne_eqb}
 use Rattle.hv_cpu.specs.Regs.{Regs, file_of}
 use Rattle.hv_block.specs.Block.{put_regs, regs_at}
-use Rattle.hv_block.proofs.Same.{words_from}
 use Rattle.hv_exec.specs.Changes.{changed_regs, differing}
 use Rattle.hv_nest.specs.Noted.{control_of}
-use Rattle.hv_nest.specs.Notes.{StandsAt}
-use Rattle.hv_nest.proofs.Puts.{block_changes, differing_nil}
+use Rattle.hv_nest.proofs.Puts.{block_changes, count_step, differing_more, differing_nil, differing_part, room_step}
+use Rattle.hv_nest.proofs.Undone.{same_or_other}
 
--- words that stand there already
-pub sets_standing : (ws S : List ℕ) (i : ℕ) → StandsAt S i ws → sets S i ws ≡ S
-sets_standing [] S i stands = refl
-sets_standing (w ∷ ws) S i stands =
-    let here : i + 0 ≡ i = omega arith in
-    let is : w ≡ get_or S i 0 = sym (stands 0 (omega arith)) ∙ ap (λ (k : ℕ). get_or S k 0) here in
-    ap (λ (v : ℕ). sets (set S i v) (suc i) ws) is
-    ∙ ap (λ (T : List ℕ). sets T (suc i) ws) (set-get_or S i 0)
-    ∙ sets_standing ws S (suc i)
-    (λ k lt.
-    let next : suc i + k ≡ i + suc k = omega arith in
-    ap (λ (j : ℕ). get_or S j 0) next ∙ stands (suc k) (omega (arith, lt)))
+-- a word that is another is counted
+differing_here : (xs ws : List ℕ) (i : ℕ) → i < length xs → i < length ws → get_or xs i 0 ≢ get_or ws i 0 → 1 ≤ differing xs ws
+differing_here xs ws i h k ne =
+    let one : differing xs (take (i + 1) ws) ≡ differing xs (take i ws) + 1 =
+    differing_more xs ws i h k ∙ ap (λ (t : Bool). differing xs (take i ws) + cond t 0 1) (ne_eqb (get_or xs i 0) (get_or ws i 0) ne) in
+    omega (arith, one, differing_part xs ws (i + 1))
 
--- words behind those that are put stay
-pub sets_behind : (ws S : List ℕ) (i j : ℕ) → i + length ws ≤ j → get_or (sets S i ws) j 0 ≡ get_or S j 0
-sets_behind [] S i j h = refl
-sets_behind (w ∷ ws) S i j h =
-    let behind : suc i + length ws ≤ j = omega (arith, h) in
-    let ne : j ≢ i = λ e. omega (arith, h, e) in
-    sets_behind ws (set S i w) (suc i) j behind ∙ get_or-set_other S i j w 0 ne
+-- so many words are compared as are put
+pub differing_row : (xs ws : List ℕ) (n : ℕ) → n ≡ length ws → differing (take n xs) ws ≡ differing xs ws
+unfolding differing
+differing_row [] ws n e = ap (λ (ys : List ℕ). differing ys ws) (take_none n)
+  where
+    take_none : (n : ℕ) → take {A = ℕ} n [] ≡ []
+    take_none zero = refl
+    take_none (suc n) = refl
+differing_row (x ∷ xs) [] n e = differing_nil (take n (x ∷ xs))
+differing_row (x ∷ xs) (w ∷ ws) zero e = absurd (omega (arith, e))
+differing_row (x ∷ xs) (w ∷ ws) (suc n) e =
+    let rest : n ≡ length ws = omega (arith, e) in
+    ap (λ (m : ℕ). cond (x == w) 0 1 + m) (differing_row xs ws n rest)
 
+-- the first word and the others
+differing_first : (S ws : List ℕ) (at w : ℕ) → at < length S → differing (drop at S) (w ∷ ws) ≡ cond (get_or S at 0 == w) 0 1 + differing (drop (suc at) S) ws
+unfolding differing
+differing_first S ws at w inside = ap (λ (xs : List ℕ). differing xs (w ∷ ws)) (drop-cons S at 0 inside)
+
+-- the first word is there already
+first_same : (S ws : List ℕ) (at w : ℕ) → get_or S at 0 ≡ w → sets S at (w ∷ ws) ≡ sets S (suc at) ws
+first_same S ws at w e =
+    ap (λ (v : ℕ). sets (set S at v) (suc at) ws) (sym e) ∙ ap (λ (T : List ℕ). sets T (suc at) ws) (set-get_or S at 0)
+
+-- the first word of a row, and the others after it
+module _ (S ws : List ℕ) (at w n : ℕ) (inside : at < length S) (count : differing (drop at S) (w ∷ ws) ≡ n) where
+  pub behind_same : get_or S at 0 ≡ w → differing (drop (suc at) S) ws ≡ n
+  behind_same e =
+      let first : differing (drop at S) (w ∷ ws) ≡ 0 + differing (drop (suc at) S) ws = differing_first S ws at w inside ∙ ap (λ (t : Bool). cond t 0 1 + differing (drop (suc at) S) ws) (eq-eqb (get_or S at 0) w e) in
+      omega (arith, first, count)
+
+  pub behind_other : get_or S at 0 ≢ w → suc (differing (drop (suc at) S) ws) ≡ n
+  behind_other ne =
+      let first : differing (drop at S) (w ∷ ws) ≡ 1 + differing (drop (suc at) S) ws = differing_first S ws at w inside ∙ ap (λ (t : Bool). cond t 0 1 + differing (drop (suc at) S) ws) (ne_eqb (get_or S at 0) w ne) in
+      omega (arith, first, count)
+
+-- where no word is another nothing is put
+pub sets_same : (S ws : List ℕ) (at : ℕ) → at + length ws ≤ length S → differing (drop at S) ws ≡ 0 → sets S at ws ≡ S
+sets_same S [] at long none = refl
+sets_same S (w ∷ ws) at long none =
+    let inside : at < length S = omega (arith, long) in
+    let rest : suc at + length ws ≤ length S = omega (arith, long) in
+    same_or_other (get_or S at 0) w (sets S at (w ∷ ws) ≡ S)
+    (λ e. first_same S ws at w e ∙ sets_same S ws (suc at) rest (behind_same S ws at w 0 inside none e))
+    (λ ne. absurd (omega (arith, behind_other S ws at w 0 inside none ne)))
+
+-- where one word alone is another, that one is put
+pub sets_one : (S ws : List ℕ) (at k : ℕ) → at + length ws ≤ length S → differing (drop at S) ws ≡ 1 → k < length ws → get_or S (at + k) 0 ≢ get_or ws k 0 → sets S at ws ≡ set S (at + k) (get_or ws k 0)
+sets_one S [] at k long one lt ne = absurd (omega (arith, lt))
+sets_one S (w ∷ ws) at zero long one lt ne =
+    let inside : at < length S = omega (arith, long) in
+    let here : at + 0 ≡ at = omega arith in
+    let other : get_or S at 0 ≢ w = λ q. ne (ap (λ (j : ℕ). get_or S j 0) here ∙ q) in
+    let next : at < suc at = omega arith in
+    let none : differing (drop (suc at) S) ws ≡ 0 = omega (arith, behind_other S ws at w 1 inside one other) in
+    let still : differing (drop (suc at) (set S at w)) ws ≡ 0 = ap (λ (xs : List ℕ). differing xs ws) (drop-set-lt (suc at) S at w next) ∙ none in
+    let rest : suc at + length ws ≤ length (set S at w) = omega (arith, long, length-set S at w) in
+    sets_same (set S at w) ws (suc at) rest still ∙ ap (λ (j : ℕ). set S j w) (sym here)
+sets_one S (w ∷ ws) at (suc k) long one lt ne =
+    let inside : at < length S = omega (arith, long) in
+    let next : suc at + k ≡ at + suc k = omega arith in
+    let rest : suc at + length ws ≤ length S = omega (arith, long) in
+    let shorter : k < length ws = omega (arith, lt) in
+    let far : get_or S (suc at + k) 0 ≢ get_or ws k 0 = λ q. ne (ap (λ (j : ℕ). get_or S j 0) (sym next) ∙ q) in
+    let in_range : k < length (drop (suc at) S) = omega (arith, rest, shorter, length-drop (suc at) S) in
+    same_or_other (get_or S at 0) w (sets S at (w ∷ ws) ≡ set S (at + suc k) (get_or ws k 0))
+    (λ e.
+    first_same S ws at w e
+    ∙ sets_one S ws (suc at) k rest (behind_same S ws at w 1 inside one e) shorter far
+    ∙ ap (λ (j : ℕ). set S j (get_or ws k 0)) next)
+    (λ other. absurd (omega (arith, behind_other S ws at w 1 inside one other, differing_here (drop (suc at) S) ws k in_range shorter (λ q. far (sym (get_or-drop (suc at) S k 0) ∙ q)))))
+
+-- one word of a row: there is room where it changes
+pub likely_room : (O ws : List ℕ) (at k place n : ℕ) → place ≡ at + k → k < length ws → at + length ws ≤ length O → n + differing (drop at O) ws ≤ 8 → get_or O place 0 ≢ get_or ws k 0 → n < 8
+likely_room O ws at k place n p lt long room ne =
+    let few : n ≤ n + differing (drop at O) (take k ws) = omega arith in
+    room_step O ws at k place n n p lt long few room ne
+
+-- and then few are noted
+pub likely_count : (O ws : List ℕ) (at k place n m : ℕ) → place ≡ at + k → k < length ws → at + length ws ≤ length O → m ≤ n + 1 → (get_or O place 0 ≡ get_or ws k 0 → m ≡ n) → m ≤ n + differing (drop at O) ws
+likely_count O ws at k place n m p lt long more same =
+    let few : n ≤ n + differing (drop at O) (take k ws) = omega arith in
+    omega (arith, count_step O ws at k place n m n p lt long few more same, differing_part (drop at O) ws (k + 1))
+
+-- two rows, one behind the other
 pub sets_append : (us vs S : List ℕ) (i : ℕ) → sets S i (us ++ vs) ≡ sets (sets S i us) (i + length us) vs
 sets_append [] vs S i = let e : i ≡ i + 0 = omega arith in ap (λ (k : ℕ). sets S k vs) e
 sets_append (u ∷ us) vs S i =
     let e : suc i + length us ≡ i + suc (length us) = omega arith in
     sets_append us vs (set S i u) (suc i) ∙ ap (λ (k : ℕ). sets (sets (set S i u) (suc i) us) k vs) e
+
+-- the parts of a block, put one after another, are the registers
+pub all_put : (S T1 T2 T3 T4 xs cs : List ℕ) (g v : ℕ) (q : Regs) → T1 ≡ set S (1024 * g) q.pc → T2 ≡ sets T1 (1024 * g + 1) xs → T3 ≡ sets T2 (1024 * g + 32) cs → T4 ≡ set T3 (1024 * g + 64) v → xs ≡ drop 1 (file_of q) → cs ≡ control_of q → v ≡ q.next → T4 ≡ put_regs S g q
+all_put S T1 T2 T3 T4 xs cs g v q put1 put2 put3 put4 file control next =
+    let a : ℕ = 1024 * g in
+    let one : a + 1 ≡ suc a = omega arith in
+    let far : a + 32 ≡ suc a + 31 = omega arith in
+    put4
+    ∙ ap (λ (w : ℕ). set T3 (a + 64) w) next
+    ∙ ap (λ (T : List ℕ). set T (a + 64) q.next) (
+    put3
+    ∙ ap (λ (T : List ℕ). sets T (a + 32) cs) (
+    put2
+    ∙ ap (λ (T : List ℕ). sets T (a + 1) xs) put1
+    ∙ ap (λ (k : ℕ). sets (set S a q.pc) k xs) one
+    ∙ ap (λ (ys : List ℕ). sets (set S a q.pc) (suc a) ys) file
+    )
+    ∙ ap (λ (k : ℕ). sets (sets (set S a q.pc) (suc a) (drop 1 (file_of q))) k cs) far
+    ∙ ap (λ (ys : List ℕ). sets (sets (set S a q.pc) (suc a) (drop 1 (file_of q))) (suc a + 31) ys) control
+    ∙ sym (sets_append (drop 1 (file_of q)) (control_of q) (set S a q.pc) (suc a))
+    )
 
 -- how many words differ, in two parts
 pub differing_append : (us vs S : List ℕ) (i : ℕ) → i + length us ≤ length S → differing (drop i S) (us ++ vs) ≡ differing (drop i S) us + differing (drop (i + length us) S) vs
@@ -67,81 +158,6 @@ one_more S i v n m few kept = by (get_or S i 0 == v) refl
     by : (t : Bool) → (get_or S i 0 == v) ≡ t → m ≤ n + cond t 0 1
     by true e = let same : m ≡ n = kept (eqb-true (get_or S i 0) v e) in omega arith
     by false e = omega arith
-
--- the parts of a block in which registers stand
-standing : (S : List ℕ) (i k n j : ℕ) → j < n → get_or S (i + k + j) 0 ≡ get_or (words_from S i k n) j 0
-unfolding words_from
-standing S i k zero j lt = absurd (omega (arith, lt))
-standing S i k (suc n) zero lt = let e : i + k + 0 ≡ i + k = omega arith in ap (λ (p : ℕ). get_or S p 0) e
-standing S i k (suc n) (suc j) lt =
-    let e : i + k + suc j ≡ i + suc k + j = omega arith in
-    ap (λ (p : ℕ). get_or S p 0) e ∙ standing S i (suc k) n j (omega (arith, lt))
-
-file_stands : (S : List ℕ) (g : ℕ) (b : Regs) (j : ℕ) → regs_at S g ≡ b → j < 31 → get_or S (1024 * g + 1 + j) 0 ≡ get_or (drop 1 (file_of b)) j 0
-unfolding words_from
-file_stands S g b j is lt =
-    standing S (1024 * g) 1 31 j lt ∙ ap (λ (r : Regs). get_or (drop 1 (file_of r)) j 0) is
-
-control_stands : (S : List ℕ) (g : ℕ) (b : Regs) (j : ℕ) → regs_at S g ≡ b → j < 17 → get_or S (1024 * g + 32 + j) 0 ≡ get_or (control_of b) j 0
-unfolding words_from
-control_stands S g b j is lt =
-    standing S (1024 * g) 32 17 j lt ∙ ap (λ (r : Regs). get_or (control_of r) j 0) is
-
-module _ (S : List ℕ) (g pc : ℕ) (b q : Regs) (is : regs_at S g ≡ b) (first : pc ≡ q.pc) (T1 : List ℕ) (put1 : T1 ≡ set S (1024 * g) pc) where
-  pub file_still : (xs : List ℕ) → xs ≡ drop 1 (file_of b) → StandsAt T1 (1024 * g + 1) xs
-  file_still xs e = λ k lt.
-      let short : k < 31 = omega (arith, lt, ap length e) in
-      let ne : 1024 * g + 1 + k ≢ 1024 * g = λ f. omega (arith, f) in
-      ap (λ (T : List ℕ). get_or T (1024 * g + 1 + k) 0) put1
-      ∙ get_or-set_other S (1024 * g) (1024 * g + 1 + k) pc 0 ne
-      ∙ file_stands S g b k is short
-      ∙ ap (λ (ys : List ℕ). get_or ys k 0) (sym e)
-
-  module _ (xs : List ℕ) (file : xs ≡ drop 1 (file_of q)) (T2 : List ℕ) (put2 : T2 ≡ sets T1 (1024 * g + 1) xs) where
-    behind_file : (j : ℕ) → 1024 * g + 32 ≤ j → get_or T2 j 0 ≡ get_or S j 0
-    behind_file j h =
-        let behind : 1024 * g + 1 + length xs ≤ j = omega (arith, h, ap length file) in
-        let ne : j ≢ 1024 * g = λ f. omega (arith, f, h) in
-        ap (λ (T : List ℕ). get_or T j 0) put2
-        ∙ sets_behind xs T1 (1024 * g + 1) j behind
-        ∙ ap (λ (T : List ℕ). get_or T j 0) put1
-        ∙ get_or-set_other S (1024 * g) j pc 0 ne
-
-    pub control_still : (cs : List ℕ) → cs ≡ control_of b → StandsAt T2 (1024 * g + 32) cs
-    control_still cs e = λ k lt.
-        let short : k < 17 = omega (arith, lt, ap length e) in
-        behind_file (1024 * g + 32 + k) (omega arith) ∙ control_stands S g b k is short ∙ ap (λ (ys : List ℕ). get_or ys k 0) (sym e)
-
-    module _ (cs : List ℕ) (control : cs ≡ control_of q) (T3 : List ℕ) (put3 : T3 ≡ sets T2 (1024 * g + 32) cs) where
-      pub next_still : (v : ℕ) → v ≡ b.next → get_or T3 (1024 * g + 64) 0 ≡ v
-      next_still v e =
-          let behind : 1024 * g + 32 + length cs ≤ 1024 * g + 64 = omega (arith, ap length control) in
-          ap (λ (T : List ℕ). get_or T (1024 * g + 64) 0) put3
-          ∙ sets_behind cs T2 (1024 * g + 32) (1024 * g + 64) behind
-          ∙ behind_file (1024 * g + 64) (omega arith)
-          ∙ ap (λ (r : Regs). r.next) is
-          ∙ sym e
-
-      pub all_put : (T4 : List ℕ) (v : ℕ) → v ≡ q.next → T4 ≡ set T3 (1024 * g + 64) v → T4 ≡ put_regs S g q
-      all_put T4 v e put4 =
-          let a : ℕ = 1024 * g in
-          let one : a + 1 ≡ suc a = omega arith in
-          let far : a + 32 ≡ suc a + 31 = omega arith in
-          put4
-          ∙ ap (λ (w : ℕ). set T3 (a + 64) w) e
-          ∙ ap (λ (T : List ℕ). set T (a + 64) q.next) (
-          put3
-          ∙ ap (λ (T : List ℕ). sets T (a + 32) cs) (
-          put2
-          ∙ ap (λ (T : List ℕ). sets T (a + 1) xs) put1
-          ∙ ap (λ (w : ℕ). sets (set S a w) (a + 1) xs) first
-          ∙ ap (λ (k : ℕ). sets (set S a q.pc) k xs) one
-          ∙ ap (λ (ys : List ℕ). sets (set S a q.pc) (suc a) ys) file
-          )
-          ∙ ap (λ (k : ℕ). sets (sets (set S a q.pc) (suc a) (drop 1 (file_of q))) k cs) far
-          ∙ ap (λ (ys : List ℕ). sets (sets (set S a q.pc) (suc a) (drop 1 (file_of q))) (suc a + 31) ys) control
-          ∙ sym (sets_append (drop 1 (file_of q)) (control_of q) (set S a q.pc) (suc a))
-          )
 
 -- how many registers change, part by part
 parts : (O : List ℕ) (g : ℕ) (q : Regs) → 1024 * g + 65 ≤ length O
@@ -202,3 +218,11 @@ module _ (O : List ℕ) (g n pc : ℕ) (q : Regs) (long : 1024 * g + 65 ≤ leng
         last_count m4 few4 kept4 =
             let more : m4 ≤ m3 + cond (get_or O (1024 * g + 64) 0 == q.next) 0 1 = one_more O (1024 * g + 64) q.next m3 m4 few4 (λ e. kept4 (here ∙ e ∙ sym next)) in
             omega (arith, more, pc_count, file_part, few2, control_part, few3, parts O g q long)
+
+-- one more place is compared
+pub count_more : (xs ws : List ℕ) (i c : ℕ) → i < length xs → i < length ws → c ≡ differing xs (take i ws) → c + cond (get_or xs i 0 == get_or ws i 0) 0 1 ≡ differing xs (take (i + 1) ws)
+count_more xs ws i c h k e = ap (λ (n : ℕ). n + cond (get_or xs i 0 == get_or ws i 0) 0 1) e ∙ sym (differing_more xs ws i h k)
+
+pub ruleset counting = (differing_nil, count_more)
+
+pub ruleset rows_put = (sets_same, sets_one, differing_row, likely_room, likely_count)

@@ -1,9 +1,11 @@
+pub mod Apart
 pub mod AtHart
 pub mod Causes
 pub mod Changing
 pub mod Counts
 pub mod Follows
 pub mod Frames
+pub mod Inserted
 pub mod Puts
 pub mod Reasons
 pub mod Received

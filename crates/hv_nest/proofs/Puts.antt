@@ -1,11 +1,11 @@
 -- Putting words in a row, with notes.
-use Rattle.std.proofs.Common.{◌≡◌, ◌≢◌, ℕ, zero, suc, ◌+◌, ◌*◌, ◌<◌, ◌≤◌, Bool, true, false, cond, List, [], ◌∷◌, ◌++◌, length, take, drop, set, get_or, refl, ap, ◌∙◌, sym, arith}
+use Rattle.std.proofs.Common.{◌≡◌, ◌≢◌, ℕ, zero, suc, ◌+◌, ◌*◌, ◌<◌, ◌≤◌, Bool, true, false, cond, List, [], ◌∷◌, ◌++◌, length, take, drop, get_or, refl, ap, ◌∙◌, sym, arith}
 use Rattle.std.specs.Prelude.{◌==◌}
-use Rattle.std.proofs.Math.Seq.{sets, drop-cons}
+use Rattle.std.proofs.Math.Seq.{drop-cons}
 use Rattle.std.proofs.lemmas.List.{get_or-drop, length-drop}
 use Rattle.std.proofs.lemmas.Bool.{ne_eqb, eqb-true}
 use Rattle.hv_cpu.specs.Regs.{Regs, spelled}
-use Rattle.hv_block.specs.Block.{regs_at, put_regs}
+use Rattle.hv_block.specs.Block.{regs_at}
 use Rattle.hv_block.proofs.Edits.{sets_more, length-sets_lem}
 use Rattle.hv_exec.specs.Changes.{differing, changed_regs}
 use Rattle.hv_nest.proofs.Undone.{length-undone}
@@ -107,45 +107,6 @@ block_changes S g q long =
     ∙ ap (λ (m : ℕ). m + cond (get_or S (1024 * g + 64) 0 == q.next) 0 1)
     (sym (differing_from S (take 49 (spelled q)) (1024 * g) 0 49 refl far)
     ∙ ap (λ (k : ℕ). differing (drop k S) (take 49 (spelled q))) z)
-
--- the same where the words are given
-pub cpu_room : (S ws : List ℕ) (g n : ℕ) (q : Regs) → ws ≡ spelled q → 1024 * g + 49 ≤ length S → n + changed_regs (regs_at S g) q ≤ 8 → n + differing (drop (1024 * g) S) (take 49 ws) ≤ 8
-cpu_room S ws g n q e long room =
-    let d : differing (drop (1024 * g) S) (take 49 ws) ≡ differing (drop (1024 * g) S) (take 49 (spelled q)) = ap (λ (xs : List ℕ). differing (drop (1024 * g) S) (take 49 xs)) e in
-    omega (arith, block_changes S g q long)
-
-last_word : (ws : List ℕ) (q : Regs) → ws ≡ spelled q → get_or ws 49 0 ≡ q.next
-last_word ws q e = ap (λ (xs : List ℕ). get_or xs 49 0) e
-
-pub next_room : (S ws : List ℕ) (g n m : ℕ) (q : Regs) → ws ≡ spelled q → 1024 * g + 49 ≤ length S → n + changed_regs (regs_at S g) q ≤ 8 → m ≤ n + differing (drop (1024 * g) S) (take 49 ws) → get_or S (1024 * g + 64) 0 ≢ get_or ws 49 0 → m < 8
-next_room S ws g n m q e long room few ne =
-    let other : get_or S (1024 * g + 64) 0 ≢ q.next = λ p. ne (p ∙ sym (last_word ws q e)) in
-    let d : differing (drop (1024 * g) S) (take 49 ws) ≡ differing (drop (1024 * g) S) (take 49 (spelled q)) = ap (λ (xs : List ℕ). differing (drop (1024 * g) S) (take 49 xs)) e in
-    let one : changed_regs (regs_at S g) q ≡ differing (drop (1024 * g) S) (take 49 (spelled q)) + 1 =
-    block_changes S g q long ∙ ap (λ (t : Bool). differing (drop (1024 * g) S) (take 49 (spelled q)) + cond t 0 1) (ne_eqb (get_or S (1024 * g + 64) 0) q.next other) in
-    omega arith
-
-pub cpu_count : (S ws : List ℕ) (g n m k : ℕ) (q : Regs) → ws ≡ spelled q → 1024 * g + 49 ≤ length S → m ≤ n + differing (drop (1024 * g) S) (take 49 ws) → k ≤ m + 1 → (get_or S (1024 * g + 64) 0 ≡ get_or ws 49 0 → k ≡ m) → k ≤ n + changed_regs (regs_at S g) q
-cpu_count S ws g n m k q e long few more same = by (get_or S (1024 * g + 64) 0 == q.next) refl
-  where
-    d : differing (drop (1024 * g) S) (take 49 ws) ≡ differing (drop (1024 * g) S) (take 49 (spelled q))
-    d = ap (λ (xs : List ℕ). differing (drop (1024 * g) S) (take 49 xs)) e
-
-    by : (t : Bool) → (get_or S (1024 * g + 64) 0 == q.next) ≡ t → k ≤ n + changed_regs (regs_at S g) q
-    by true p =
-        let kept : k ≡ m = same (eqb-true (get_or S (1024 * g + 64) 0) q.next p ∙ sym (last_word ws q e)) in
-        omega (arith, d, block_changes S g q long)
-    by false p =
-        let one : changed_regs (regs_at S g) q ≡ differing (drop (1024 * g) S) (take 49 (spelled q)) + 1 =
-        block_changes S g q long ∙ ap (λ (t : Bool). differing (drop (1024 * g) S) (take 49 (spelled q)) + cond t 0 1) p in
-        omega (arith, d)
-
--- 49 words one after another and the last one apart are the registers
-pub spelled_out : (S T U ws : List ℕ) (g : ℕ) (q : Regs) → ws ≡ spelled q → T ≡ sets S (1024 * g) (take 49 ws) → U ≡ set T (1024 * g + 64) (get_or ws 49 0) → U ≡ put_regs S g q
-spelled_out S T U ws g q is first last =
-    last
-    ∙ ap (λ (X : List ℕ). set X (1024 * g + 64) (get_or ws 49 0)) first
-    ∙ ap (λ (xs : List ℕ). set (sets S (1024 * g) (take 49 xs)) (1024 * g + 64) (get_or xs 49 0)) is
 
 pub ruleset puts = (sets_more, length-sets_lem, room_step, count_step)
 

@@ -17,6 +17,19 @@ true-false e = cc
 false-true : false ≡ true → ⊥
 false-true e = cc
 
+-- two numbers are the same or not
+pub same_or_other : (x y : ℕ) → (P : Type 0) → (x ≡ y → P) → (x ≢ y → P) → P
+same_or_other x y P same other = by (x == y) refl
+  where
+    by : (t : Bool) → (x == y) ≡ t → P
+    by true e = same (eqb-true x y e)
+    by false e = other (eqb-false x y e)
+
+-- neither of two is so
+pub or_parts : (s t : Bool) → (s || t) ≡ false → (s ≡ false) × (t ≡ false)
+or_parts true t z = absurd (true-false z)
+or_parts false t z = (refl, z)
+
 pub length-undone : (T : List ℕ) (notes : List Note) → length (undone T notes) ≡ length T
 unfolding undone
 length-undone T [] = refl
@@ -216,10 +229,6 @@ has-without a b (p ∷ ps) ne e = by (has-without a b ps ne) (a == p) refl e
     by rest false q w =
         let parts = or_parts (b == p) (has b (without a ps)) w in
         ap (λ t. t || has b ps) parts.0 ∙ rest parts.1
-      where
-        or_parts : (s t : Bool) → (s || t) ≡ false → (s ≡ false) × (t ≡ false)
-        or_parts true t z = absurd (true-false z)
-        or_parts false t z = (refl, z)
 
 -- exact notes are of different places, so there are at most as many as places where the storage may differ
 pub few_notes : (T : List ℕ) (notes : List Note) (ps : List ℕ) → is_exact T notes ≡ true → ((a : ℕ) → has a ps ≡ false → get_or T a 0 ≡ get_or (undone T notes) a 0) → length notes ≤ length ps

@@ -1,5 +1,5 @@
 -- The rows that tell what a step changed, and those behind them.
-use Rattle.std.specs.Prelude.{◌≡◌, ℕ, ◌-◌, ◌≤◌, List, ◌++◌, length, take, drop, replicate}
+use Rattle.std.specs.Prelude.{◌≡◌, ℕ, ◌-◌, ◌≤◌, if◌then◌else◌, nat_lt, List, [], ◌∷◌, ◌++◌, length, take, drop, replicate}
 use Rattle.std.proofs.Common.{ap, ap₂, sym, subst, ◌∙◌}
 use Rattle.std.proofs.lemmas.List.{length-take-le, take-append-drop}
 use Rattle.hv_nest.specs.declared.changed.ChangedRow.{ChangedRow}
@@ -31,3 +31,8 @@ filled_back c few long rest =
     ∙ ap (λ (xs : List ChangedRow). take c.len c.rows ++ xs) (sym rest)
     ∙ take-append-drop c.len c.rows in
     ap₂ (λ (n : ℕ) (xs : List ChangedRow). let i : Inside = record { len = n; rows = xs } in i) told all
+
+-- rows with one more among them: of two rows the one of the lower place stands first, and the other goes on
+unfoldable pub with_row : ChangedRow → List ChangedRow → List ChangedRow
+with_row row [] = row ∷ []
+with_row row (r ∷ rows) = if nat_lt row.at r.at then row ∷ with_row r rows else r ∷ with_row row rows

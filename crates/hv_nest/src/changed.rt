@@ -1,7 +1,7 @@
 //! Which bare words a step changed.
 
-ghost use Rattle.std.specs.Prelude.{◌≡◌, [], ◌∷◌};
-ghost use Rattle.hv_nest.specs.Rows.{rows_limit};
+ghost use Rattle.std.specs.Prelude.{◌≡◌, ◌<◌, ◌++◌, [], ◌∷◌, length, replicate};
+ghost use Rattle.hv_nest.specs.Rows.{no_row, rows_limit, with_row};
 
 use std::marker::Model;
 
@@ -56,23 +56,24 @@ impl Changed {
         }
     }
 
-    /// One word.
-    #[inline(always)]
-    pub(crate) fn one(row: ChangedRow) -> Changed
-        ensures { result ≡ row ∷ [] }
-    {
-        let mut changed = Changed::none();
-        changed.rows[0] = row;
-        changed.len = 1;
-        changed
-    }
-
     /// Forgets its words.
     #[inline(always)]
     pub(crate) fn clear(&mut self)
         ensures { self.new ≡ [] }
     {
-        *self = Changed::none();
+        wipe(&mut self.rows[..self.len as usize]);
+        self.len = 0;
+    }
+
+    /// Tells one more word, before those of greater places.
+    #[inline(always)]
+    pub(crate) fn insert(&mut self, row: ChangedRow)
+        requires { length self.old < rows_limit }
+        ensures { self.new ≡ with_row row self.old }
+    {
+        let last = put_among(&mut self.rows[..self.len as usize], row);
+        self.rows[self.len as usize] = last;
+        self.len += 1;
     }
 
     /// The rows of the words that changed.
@@ -81,4 +82,32 @@ impl Changed {
     {
         &self.rows[..self.len as usize]
     }
+}
+
+// Puts rows that tell nothing in the place of others.
+#[inline(always)]
+#[tactic(auto, using(crate::proofs::Inserted::inserting))]
+fn wipe(rows: &mut [ChangedRow])
+    ensures { rows.new ≡ replicate (length rows.old) no_row }
+{
+    for i in 0..rows.len() {
+        rows[i] = ChangedRow { at: 0, value: 0 };
+    }
+}
+
+// Puts a row among others before those of greater places, which move on by one: the last has no room and is answered.
+#[inline(always)]
+#[tactic(auto, using(crate::proofs::Inserted::inserting))]
+fn put_among(rows: &mut [ChangedRow], row: ChangedRow) -> ChangedRow
+    ensures { rows.new ++ result ∷ [] ≡ with_row row rows.old }
+{
+    let mut moved = row;
+    for i in 0..rows.len() {
+        if moved.at < rows[i].at {
+            let next = rows[i];
+            rows[i] = moved;
+            moved = next;
+        }
+    }
+    moved
 }

@@ -1,8 +1,10 @@
 //! Notes of the words that a step changes, as they were before it.
 
-ghost use Rattle.std.specs.Prelude.{◌≡◌, ◌≢◌, ℕ, ◌+◌, ◌<◌, ◌≤◌, ◌++◌, ◌∷◌, [], true, false, min, IfNone, IfSome, MatchOption, Some, length, slice_index, slice_set};
+ghost use Rattle.std.specs.Prelude.{◌≡◌, ◌≢◌, ℕ, ◌+◌, ◌<◌, ◌≤◌, ◌++◌, ◌∷◌, [], true, false, IfNone, IfSome, length, slice_index, slice_set};
 ghost use Rattle.hv_nest.specs.Changes.{differences};
-ghost use Rattle.hv_nest.specs.Notes.{undone, is_noted, is_exact, SameBetween, IsNextChange};
+ghost use Rattle.hv_nest.specs.Noted.{told_too};
+ghost use Rattle.hv_nest.specs.Notes.{undone, is_noted, is_exact, AreApart};
+ghost use Rattle.hv_nest.specs.Rows.{rows_limit};
 
 use crate::changed::{Changed, ChangedRow, ROWS};
 use hv_store::Store;
@@ -15,7 +17,7 @@ pub struct Note {
     pub before: u32,
 }
 
-/// The notes of a step, in the order in which its words were changed first, at most 8.
+/// The notes of a step, in the order in which its words were changed first, at most ROWS, each of another place.
 #[derive(Drop)]
 pub struct Notes {
     len: u32,
@@ -25,18 +27,21 @@ pub struct Notes {
 impl Model for Notes {
     ghost use Rattle.std.specs.Prelude.{◌≡◌, ◌≤◌, List, length, take};
     ghost use Rattle.hv_nest.specs.declared.notes.Note.{Note};
+    ghost use Rattle.hv_nest.specs.Notes.{AreApart};
+    ghost use Rattle.hv_nest.specs.Rows.{rows_limit};
 
     ghost Value = { List Note };
 
     ghost view = { λ n. take n.len n.items };
 
-    ghost invariant = { λ n. (n.len ≤ 8) × (length n.items ≡ 8) };
+    ghost invariant = { λ n. (n.len ≤ rows_limit) × (length n.items ≡ rows_limit) × AreApart (take n.len n.items) };
 }
 
 impl Notes {
     ghost use Rattle.hv_nest.specs.declared.notes.Note.{Note};
 
     /// No note.
+    #[tactic(auto, unfolding(crate::specs::Notes::AreApart))]
     pub fn new() -> Notes
         ensures { result ≡ [] }
     {
@@ -48,30 +53,35 @@ impl Notes {
 
     /// Forgets its notes.
     #[inline(always)]
+    #[tactic(auto, unfolding(crate::specs::Notes::AreApart))]
     pub fn clear(&mut self)
         ensures { self.new ≡ [] }
     {
-        *self = Notes::new();
+        self.len = 0;
     }
 
     /// The notes in order.
+    #[inline(always)]
     pub fn as_slice(&self) -> &[Note]
         ensures items { result.now ≡ self.now }
-        ensures bound { length result.now ≤ 8 }
+        ensures bound { length result.now ≤ rows_limit }
     {
         &self.items[..self.len as usize]
     }
 
     // Whether the word at a place is noted.
+    #[inline(always)]
     fn has(&self, at: u32) -> bool
         ensures { result ≡ is_noted at self.now }
     {
-        self.as_slice().iter().any(|note| note.at == at)
+        self.len > 0 && self.as_slice().iter().any(|note| note.at == at)
     }
 
     // Notes one more word.
+    #[inline(always)]
     fn push(&mut self, at: u32, before: u32)
-        requires { length self.old < 8 }
+        requires room { length self.old < rows_limit }
+        requires other { is_noted at self.old ≡ false }
         ensures { self.new ≡ self.old ++ record { at = at; before = before } ∷ [] }
     {
         self.items[self.len as usize] = Note { at, before };
@@ -93,10 +103,11 @@ impl Notes {
     }
 
     /// Changes the word at a place, and notes what it was where it changes for the first time.
+    #[inline(always)]
     #[tactic(auto, using(crate::proofs::Undone::undoing))]
     pub fn put(&mut self, store: &mut Store, at: u32, value: u32)
         requires at { at < length store.old }
-        requires room { slice_index (undone store.old self.old) at ≢ value → length self.old < 8 }
+        requires room { slice_index (undone store.old self.old) at ≢ value → length self.old < rows_limit }
         ensures put { store.new ≡ slice_set store.old at value }
         ensures origin { undone store.new self.new ≡ undone store.old self.old }
         ensures count { length self.new ≤ length self.old + 1 }
@@ -135,47 +146,14 @@ impl Notes {
         Some(self.items[self.len as usize])
     }
 
-    // Whether the word at a place from `from` on was another before.
-    #[tactic(auto, using(crate::proofs::Told::telling))]
-    fn differs(&self, store: &Store, from: u32, at: u32) -> bool
-        ensures yes { result ≡ true → (from ≤ at) × (at < length store.now)
-            × (slice_index (undone store.now self.now) at ≢ slice_index store.now at) }
-        ensures no { result ≡ false → from ≤ at
-            → slice_index (undone store.now self.now) at ≡ slice_index store.now at }
-    {
-        if at < from || at >= 1024 * store.pages() {
-            return false;
-        }
-        self.before(store, at) != store.get(at)
-    }
-
-    // The first place from `from` on whose word was another before.
-    #[inline(always)]
-    #[tactic(auto, using(crate::proofs::Told::telling))]
-    fn next(&self, store: &Store, from: u32) -> Option<u32>
-        ensures some { IfSome result (λ at. IsNextChange (undone store.now self.now) store.now from at) }
-        ensures noted { IfSome result (λ at. is_noted at self.now ≡ true) }
-        ensures none { IfNone result (SameBetween (undone store.now self.now) store.now from (length store.now)) }
-    {
-        let mut least = None;
-        for note in self.as_slice() {
-            if self.differs(store, from, note.at) {
-                least = sooner(least, note.at);
-            }
-        }
-        least
-    }
-
     /// The words that are others now, by rising place.
     #[inline(always)]
-    #[tactic(auto, using(crate::proofs::Told::telling))]
     pub fn changed(&self, store: &Store) -> Changed
         ensures { result ≡ differences (undone store.now self.now) store.now }
     {
-        if self.len == 0 {
-            return Changed::none();
-        }
-        self.noted(store)
+        let mut changed = Changed::none();
+        self.tell(store, &mut changed);
+        changed
     }
 
     /// The same, told in `changed` in place of what that told.
@@ -183,65 +161,41 @@ impl Notes {
     pub fn tell(&self, store: &Store, changed: &mut Changed)
         ensures { changed.new ≡ differences (undone store.now self.now) store.now }
     {
-        *changed = self.changed(store);
-    }
-
-    // The same where there are notes: most steps have none.
-    #[inline(never)]
-    fn noted(&self, store: &Store) -> Changed
-        ensures { result ≡ differences (undone store.now self.now) store.now }
-    {
-        if self.len == 1 {
-            self.single(store)
-        } else {
-            self.rows(store)
+        changed.clear();
+        match &self.items[..self.len as usize] {
+            [] => {}
+            [note] => tell_note(note, store, changed),
+            notes => tell_each(notes, store, changed),
         }
-    }
-
-    // The same where there is one note, as after a store.
-    #[inline(always)]
-    #[tactic(auto, using(crate::proofs::Told::telling))]
-    fn single(&self, store: &Store) -> Changed
-        requires { length self.now ≡ 1 }
-        ensures { result ≡ differences (undone store.now self.now) store.now }
-    {
-        match self.next(store, 0) {
-            Some(at) => Changed::one(ChangedRow {
-                at,
-                value: store.get(at),
-            }),
-            None => Changed::none(),
-        }
-    }
-
-    // The same by a search for each row.
-    #[tactic(auto, using(crate::proofs::Told::telling))]
-    fn rows(&self, store: &Store) -> Changed
-        ensures { result ≡ differences (undone store.now self.now) store.now }
-    {
-        let _notes = self.as_slice();
-        let _pages = store.pages();
-        let mut rows = [ChangedRow { at: 0, value: 0 }; ROWS];
-        let mut len = 0u32;
-        let mut from = 0u32;
-        while let Some(at) = self.next(store, from) {
-            rows[len as usize] = ChangedRow {
-                at,
-                value: store.get(at),
-            };
-            len += 1;
-            from = at + 1;
-        }
-        Changed { len, rows }
     }
 }
 
-// The lesser of two places, of which the first may be none.
-fn sooner(least: Option<u32>, at: u32) -> Option<u32>
-    ensures { MatchOption least (result ≡ Some at) (λ b. result ≡ Some (min b at)) }
+// Tells the noted words that are others now, one by one.
+#[inline(never)]
+#[tactic(auto, using(crate::proofs::Told::telling))]
+fn tell_each(notes: &[Note], store: &Store, changed: &mut Changed)
+    requires apart { AreApart notes.now }
+    requires few { length notes.now ≤ rows_limit }
+    requires none { changed.old ≡ [] }
+    ensures { changed.new ≡ differences (undone store.now notes.now) store.now }
 {
-    match least {
-        Some(before) => Some(before.min(at)),
-        None => Some(at),
+    for note in notes {
+        tell_note(note, store, changed);
+    }
+}
+
+// Tells a noted word too, if it is another now.
+#[inline(always)]
+#[tactic(auto, unfolding(crate::specs::Noted::told_too))]
+fn tell_note(note: &Note, store: &Store, changed: &mut Changed)
+    requires { length changed.old < rows_limit }
+    ensures { changed.new ≡ told_too store.now note.now changed.old }
+{
+    if note.at >= 1024 * store.pages() {
+        return;
+    }
+    let value = store.get(note.at);
+    if note.before != value {
+        changed.insert(ChangedRow { at: note.at, value });
     }
 }

@@ -6,7 +6,7 @@ ghost use Rattle.hv_word.specs.Storage.{page_count};
 ghost use Rattle.hv_cpu.specs.Regs.{file_of};
 ghost use Rattle.hv_block.specs.Block.{regs_at, put_regs, with_fault};
 ghost use Rattle.hv_exec.specs.Changes.{differing, changed_regs};
-ghost use Rattle.hv_nest.specs.Notes.{undone, is_exact, StandsAt};
+ghost use Rattle.hv_nest.specs.Notes.{undone, is_exact};
 ghost use Rattle.hv_nest.specs.Noted.{control_of};
 
 use crate::notes::Notes;
@@ -138,9 +138,10 @@ impl Space for NotingBare<'_> {
     }
 }
 
-/// Puts the registers into the control block in bare page `page`, and notes what changes. Where `register` (1 to 31) is the one
-/// of x1 to x31 that changed, if any did, this is quicker than where it isn't.
-pub fn put_cpu(store: &mut Store, notes: &mut Notes, page: u32, cpu: &Cpu, _register: u32)
+/// Puts the registers into the control block in bare page `page`, and notes what changes. Where `register` (1 to 31) is
+/// the one of x1 to x31 that changed, if any did, this is quicker than where it isn't.
+#[inline(always)]
+pub fn put_cpu(store: &mut Store, notes: &mut Notes, page: u32, cpu: &Cpu, register: u32)
     requires page { page < page_count store.old }
     requires room { length notes.old + changed_regs (regs_at (undone store.old notes.old) page) cpu.now ≤ 8 }
     ensures put { store.new ≡ put_regs store.old page cpu.now }
@@ -148,30 +149,14 @@ pub fn put_cpu(store: &mut Store, notes: &mut Notes, page: u32, cpu: &Cpu, _regi
     ensures count { length notes.new ≤ length notes.old + changed_regs (regs_at (undone store.old notes.old) page) cpu.now }
 {
     let _pages = store.pages();
-    let words = cpu.words();
     let at = 1024 * page;
-    put_words(store, notes, at, &words[..49]);
-    notes.put(store, at + 64, words[49]);
+    notes.put(store, at, cpu.pc);
+    put_row(store, notes, at + 1, file(cpu), register);
+    put_row(store, notes, at + 32, &control_words(cpu), 0);
+    notes.put(store, at + 64, next_word(cpu));
 }
 
-// Puts words from a place of the storage on, and notes what changes.
-#[tactic(auto, using(crate::proofs::Puts::puts))]
-fn put_words(store: &mut Store, notes: &mut Notes, at: u32, words: &[u32])
-    requires inside { at + length words.now ≤ length store.old }
-    requires room { length notes.old + differing (drop at (undone store.old notes.old)) words.now ≤ 8 }
-    ensures put { store.new ≡ sets store.old at words.now }
-    ensures origin { undone store.new notes.new ≡ undone store.old notes.old }
-    ensures count { length notes.new ≤ length notes.old + differing (drop at (undone store.old notes.old)) words.now }
-{
-    let _pages = store.pages();
-    let mut place = at;
-    for word in words {
-        notes.put(store, place, *word);
-        place += 1;
-    }
-}
-
-/// The same where `before` are the registers in that block: what stays is neither read nor written.
+/// The same where `before` are the registers in that block.
 #[inline(always)]
 pub fn put_changed(store: &mut Store, notes: &mut Notes, page: u32, before: &Cpu, cpu: &Cpu)
     requires page { page < page_count store.old }
@@ -181,18 +166,8 @@ pub fn put_changed(store: &mut Store, notes: &mut Notes, page: u32, before: &Cpu
     ensures origin { undone store.new notes.new ≡ undone store.old notes.old }
     ensures count { length notes.new ≤ length notes.old + changed_regs (regs_at (undone store.old notes.old) page) cpu.now }
 {
-    let _pages = store.pages();
-    let at = 1024 * page;
-    put_over(store, notes, at, before.pc, cpu.pc);
-    put_row(store, notes, at + 1, file(before), file(cpu));
-    put_row(
-        store,
-        notes,
-        at + 32,
-        &control_words(before),
-        &control_words(cpu),
-    );
-    put_over(store, notes, at + 64, next_word(before), next_word(cpu));
+    let _ = before;
+    put_cpu(store, notes, page, cpu, 0);
 }
 
 // x1 to x31.
@@ -237,57 +212,40 @@ fn next_word(cpu: &Cpu) -> u32
     cpu.next.unwrap_or(0)
 }
 
-// Puts a word where `before` stands, and notes what it was where it changes for the first time.
+// Puts words from a place of the storage on, and notes what changes. Where the word of number `likely`, counted from 1,
+// is the one that changes, if any does, this is quicker than where it isn't.
 #[inline(always)]
-fn put_over(store: &mut Store, notes: &mut Notes, at: u32, before: u32, value: u32)
-    requires at { at < length store.old }
-    requires before { slice_index store.old at ≡ before }
-    requires room { slice_index (undone store.old notes.old) at ≢ value → length notes.old < 8 }
-    ensures put { store.new ≡ slice_set store.old at value }
-    ensures origin { undone store.new notes.new ≡ undone store.old notes.old }
-    ensures count { length notes.new ≤ length notes.old + 1 }
-    ensures kept { slice_index (undone store.old notes.old) at ≡ value → length notes.new ≡ length notes.old }
-{
-    if before != value {
-        notes.put(store, at, value);
-    }
-}
-
-// Puts words from a place of the storage on, where others stand, and notes what changes.
-#[inline(always)]
-fn put_row(store: &mut Store, notes: &mut Notes, at: u32, before: &[u32], words: &[u32])
+#[tactic(auto, using(crate::proofs::Changing::rows_put))]
+fn put_row(store: &mut Store, notes: &mut Notes, at: u32, words: &[u32], likely: u32)
+    requires short { length words.now ≤ 31 }
     requires inside { at + length words.now ≤ length store.old }
-    requires long { length before.now ≡ length words.now }
-    requires before { StandsAt store.old at before.now }
     requires room { length notes.old + differing (drop at (undone store.old notes.old)) words.now ≤ 8 }
     ensures put { store.new ≡ sets store.old at words.now }
     ensures origin { undone store.new notes.new ≡ undone store.old notes.old }
     ensures count { length notes.new ≤ length notes.old + differing (drop at (undone store.old notes.old)) words.now }
 {
-    if !is_same(before, words) {
-        put_each(store, notes, at, before, words);
+    let _pages = store.pages();
+    let length = words.len() as u32;
+    let count = count_differing(store.row(at, length), words);
+    if count == 0 {
+        return;
     }
-}
-
-// Whether two rows of one length are the same, found without a branch for each word.
-#[inline(always)]
-fn is_same(before: &[u32], words: &[u32]) -> bool
-    requires { length before.now ≡ length words.now }
-    ensures { result ≡ true → before.now ≡ words.now }
-{
-    let mut same = true;
-    for i in 0..words.len() {
-        same &= before[i] == words[i];
+    if count == 1 && 0 < likely && likely <= length {
+        let place = likely - 1;
+        let word = words[place as usize];
+        if store.get(at + place) != word {
+            notes.put(store, at + place, word);
+            return;
+        }
     }
-    same
+    put_words(store, notes, at, words);
 }
 
 // The same one by one.
+#[inline(never)]
 #[tactic(auto, using(crate::proofs::Puts::puts))]
-fn put_each(store: &mut Store, notes: &mut Notes, at: u32, before: &[u32], words: &[u32])
+fn put_words(store: &mut Store, notes: &mut Notes, at: u32, words: &[u32])
     requires inside { at + length words.now ≤ length store.old }
-    requires long { length before.now ≡ length words.now }
-    requires before { StandsAt store.old at before.now }
     requires room { length notes.old + differing (drop at (undone store.old notes.old)) words.now ≤ 8 }
     ensures put { store.new ≡ sets store.old at words.now }
     ensures origin { undone store.new notes.new ≡ undone store.old notes.old }
@@ -295,10 +253,25 @@ fn put_each(store: &mut Store, notes: &mut Notes, at: u32, before: &[u32], words
 {
     let _pages = store.pages();
     let mut place = at;
-    for i in 0..words.len() {
-        put_over(store, notes, place, before[i], words[i]);
+    for word in words {
+        notes.put(store, place, *word);
         place += 1;
     }
+}
+
+// At how many places two rows of one length differ, found without a branch for each word.
+#[inline(always)]
+#[tactic(auto, using(crate::proofs::Changing::counting))]
+fn count_differing(before: &[u32], words: &[u32]) -> u32
+    requires long { length before.now ≡ length words.now }
+    requires short { length words.now ≤ 31 }
+    ensures { result ≡ differing before.now words.now }
+{
+    let mut count = 0u32;
+    for i in 0..words.len() {
+        count += u32::from(before[i] != words[i]);
+    }
+    count
 }
 
 /// Tells a fault in the control block in bare page `page`, and notes what changes.

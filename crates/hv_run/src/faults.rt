@@ -58,7 +58,8 @@ impl Faults {
         }
     }
 
-    /// Keeps one more.
+    /// Keeps one more. It is no part of its caller's code, since most steps come to no fault.
+    #[inline(never)]
     pub(crate) fn push(&mut self, row: FaultRow)
         ensures { self.new ≡ last_kept (self.old ++ row ∷ []) }
     {

@@ -82,9 +82,9 @@ impl Play {
         ensures guests { AreBareRunsWith self.old (N.state nested.old) (StepOf hart ∷ []) }
         ensures routed { IsRoutedIn (N.state nested.old) hart (fault_in result.kind) }
     {
-        let running = self.running(nested, hart);
-        let outcome = nested.step(hart);
-        self.tell_step(nested, hart, &running, &outcome);
+        let mut running = Path::new();
+        let mut outcome = Outcome::none();
+        self.make_turn(nested, hart, &mut running, &mut outcome);
         outcome
     }
 
@@ -168,21 +168,48 @@ impl Play {
         ensures harts { length (N.state nested.new).harts ≡ length (N.state nested.old).harts }
         ensures stands { Follows self.old (N.state nested.old) self.new (N.state nested.new) (replicate count (StepOf hart)) }
     {
+        let mut running = Path::new();
+        let mut outcome = Outcome::none();
         for _step in 0..count {
-            self.turn(nested, hart);
+            self.make_turn(nested, hart, &mut running, &mut outcome);
         }
     }
 
-    // The path of the machine that a hart runs, which watches are told; where there is none, it isn't looked for.
-    fn running<N: Nested>(&self, nested: &mut N, hart: u32) -> Path
+    // Makes one step of a hart, as `turn` does. The path of the machine that the hart ran and the step's outcome are told in
+    // `running` and `outcome`, which may hold any before; where there are no watches, the path is left as it is.
+    #[inline(always)]
+    fn make_turn<N: Nested>(
+        &mut self,
+        nested: &mut N,
+        hart: u32,
+        running: &mut Path,
+        outcome: &mut Outcome,
+    )
+        requires hart { hart < length (N.state nested.old).harts }
+        requires calls { self.old.calls < 2 ^ 62 }
+        ensures moves { record { kind = outcome.new.kind; state = N.state nested.new } ≡ moved_of (N.state nested.old) hart }
+        ensures changed { outcome.new.changed ≡ differences (N.state nested.old).storage (N.state nested.new).storage }
+        ensures calls { self.new.calls ≡ self.old.calls + 1 }
+        ensures harts { length (N.state nested.new).harts ≡ length (N.state nested.old).harts }
+        ensures stands { Follows self.old (N.state nested.old) self.new (N.state nested.new) (StepOf hart ∷ []) }
+        ensures guests { AreBareRunsWith self.old (N.state nested.old) (StepOf hart ∷ []) }
+        ensures routed { IsRoutedIn (N.state nested.old) hart (fault_in outcome.new.kind) }
+    {
+        self.find_running(nested, hart, running);
+        nested.step_into(hart, outcome);
+        self.tell_step(nested, hart, running, outcome);
+    }
+
+    // The path of the machine that a hart runs, which watches are told. It is made anew only where the hart runs another machine
+    // than that of the path that is there; where there are no watches, it isn't looked for.
+    #[inline(always)]
+    fn find_running<N: Nested>(&self, nested: &mut N, hart: u32, running: &mut Path)
         requires { hart < length (N.state nested.old).harts }
-        ensures path { self.now.watching ≢ [] → result ≡ running_of (N.state nested.old) hart }
+        ensures path { self.now.watching ≢ [] → running.new ≡ running_of (N.state nested.old) hart }
         ensures same { N.state nested.new ≡ N.state nested.old }
     {
-        if self.watched.is_empty() {
-            Path::new()
-        } else {
-            nested.running(hart)
+        if !self.watched.is_empty() && !nested.runs(hart, running) {
+            *running = nested.running(hart);
         }
     }
 

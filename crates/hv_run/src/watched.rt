@@ -81,6 +81,7 @@ impl Watched {
     }
 
     // The word with the machine's interrupt lines, as the engine has it now.
+    #[inline(always)]
     fn status_now<N: Nested>(&self, nested: &N) -> u32
         ensures { result ≡ status_at self.now.so_far.hart self.now.so_far.block (N.state nested.now) }
     {
@@ -194,6 +195,7 @@ fn either(a: bool, b: bool) -> bool
 }
 
 // The word with the interrupt lines of a machine whose block is in that bare page, or of the hart.
+#[inline(always)]
 pub(crate) fn status_of<N: Nested>(nested: &N, hart: u32, block: Option<u32>) -> u32
     ensures { result ≡ status_at hart block (N.state nested.now) }
 {
@@ -210,6 +212,7 @@ pub(crate) fn status_of<N: Nested>(nested: &N, hart: u32, block: Option<u32>) ->
 }
 
 // Word 42 of a bare page, 0 where there is no such page.
+#[inline(always)]
 fn word_at(store: &Store, page: u32) -> u32
     ensures { result ≡ word_at store.now page 42 }
 {
@@ -242,6 +245,7 @@ fn any_changed(foot: &Footing, changed: &Changed) -> bool
 }
 
 // Whether a recall or a fault was received at a level below `level`.
+#[inline(always)]
 fn is_outside(level: u32, kind: StepKind) -> bool
     ensures { result ≡ is_outside level kind }
 {

@@ -1,5 +1,5 @@
 -- What a play promises of the moves for which it stands.
-use Rattle.std.proofs.Common.{◌≡◌, List, ◌++◌}
+use Rattle.std.proofs.Common.{List, ◌++◌}
 use Rattle.hv_nest.specs.State.{State}
 use Rattle.hv_nest.specs.Move.{Move}
 use Rattle.hv_run.specs.Record.{WatchOf}

@@ -1,5 +1,5 @@
 -- What a play stands for.
-use Rattle.std.specs.Prelude.{◌≡◌, ℕ, ◌*◌, ◌<◌, ◌≤◌, List, [], ◌∷◌, ◌++◌, length, map, Option, Some, None}
+use Rattle.std.specs.Prelude.{◌≡◌, ◌*◌, ◌<◌, ◌≤◌, List, [], ◌∷◌, ◌++◌, length, map, Option, Some, None}
 use Rattle.hv_word.specs.Storage.{page_count}
 use Rattle.hv_map.specs.Item.{Item}
 use Rattle.hv_map.specs.Chain.{IsThere, pin_of}

@@ -1,12 +1,12 @@
 -- The engine's steps are those of the bare machine, and what it keeps beside the state stays right.
-use Rattle.std.proofs.Common.{◌≡◌, ◌≢◌, ℕ, zero, suc, ◌/◌, ◌<◌, ◌≤◌, inl, inr, length-set, Bool, true, false, List, [], ◌∷◌, length, set, Option, Some, None, IfSome, refl, ap, ◌∙◌, sym, subst, arith, slice_get}
+use Rattle.std.proofs.Common.{◌≡◌, ◌≢◌, ℕ, zero, suc, ◌/◌, ◌<◌, ◌≤◌, inl, inr, length-set, List, [], ◌∷◌, length, set, Option, Some, None, IfSome, refl, ap, ◌∙◌, sym, subst, arith, slice_get}
 use Rattle.std.specs.Prelude.{All}
 use Rattle.std.proofs.lemmas.Bool.Decides.{eqb_tells}
 use Rattle.std.proofs.lemmas.Option.{get_or_from_slice_get, same_Some, slice_get_within}
 use Rattle.hv_word.specs.Storage.{page_count}
 use Rattle.hv_cpu.specs.Lines.{lined_of}
 use Rattle.hv_cpu.specs.Regs.{Regs}
-use Rattle.hv_map.specs.Held.{IsPin, Nexts}
+use Rattle.hv_map.specs.Held.{Nexts}
 use Rattle.hv_map.specs.Item.{Item}
 use Rattle.hv_nest.specs.Frame.{IsFramedBy}
 use Rattle.hv_nest.specs.Kinds.{NextBelow}
@@ -17,15 +17,11 @@ use Rattle.hv_nest.specs.declared.outcome.StepKind.{StepKind}
 use Rattle.hv_nest.specs.declared.outcome.StepKind.TheVariants.{Worked as WorkedKind}
 use Rattle.hv_nest.proofs.AtHart.{moved_at_hart, next_kept}
 use Rattle.hv_nest.proofs.Frames.{host_framed}
-use Rattle.hv_fast.specs.Beside.{IsReady, IsRightBeside}
+use Rattle.hv_fast.specs.Beside.{IsReady}
 use Rattle.hv_fast.specs.declared.beside.Beside.{Beside}
 use Rattle.hv_fast.specs.declared.pin.Pin.{Pin}
 use Rattle.hv_fast.specs.Engine.{IsFast}
 use Rattle.hv_fast.specs.Marked.{Marked}
-
-pub some_weaker : {A : Type 0} → (o : Option A) (P Q : A → Type 0) → ((x : A) → P x → Q x) → IfSome o P → IfSome o Q
-some_weaker None P Q f h = tt
-some_weaker (Some x) P Q f h = f x h
 
 -- the harts' registers, one by one
 pub set_there : (rs : List Regs) (h : ℕ) (r : Regs) → slice_get rs h ≡ Some r → set rs h r ≡ rs
@@ -108,6 +104,7 @@ nexts_like S r q (x ∷ xs) e nexts = ((e ∙ nexts.0.0, nexts.0.1), nexts.1)
 ready_like : (S : List ℕ) (r q : Regs) (m : Marked) (p : Pin) → q.next ≡ r.next → IsReady S r m p → IsReady S q m p
 ready_like S r q m p e ready = record {
   pin = record { short = ready.pin.short; placed = ready.pin.placed; nexts = nexts_like S r q p.chain e ready.pin.nexts };
+  path = ready.path;
   ends = ready.ends;
   blocks = ready.blocks;
   quiet = ready.quiet;

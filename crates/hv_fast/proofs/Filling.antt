@@ -1,11 +1,10 @@
 -- What is kept beside the state stays right where a translation is held, and where one is put at hand.
-use Rattle.std.proofs.Common.{◌≡◌, ◌≢◌, ℕ, ◌<◌, inl, inr, true, false, List, [], ◌∷◌, length, map, Option, Some, None, refl, ap, ◌∙◌, sym, subst, arith, slice_get, set, length-set}
+use Rattle.std.proofs.Common.{◌≡◌, ◌≢◌, ℕ, inl, inr, true, false, List, [], ◌∷◌, length, map, Some, None, ap, ◌∙◌, sym, subst, slice_get, set, length-set}
 use Rattle.std.proofs.lemmas.Bool.Decides.{eqb_tells}
 use Rattle.std.proofs.lemmas.Option.{same_Some}
-use Rattle.hv_word.specs.Words.{has}
 use Rattle.hv_cpu.specs.Regs.{Regs}
 use Rattle.hv_block.specs.Block.{regs_at}
-use Rattle.hv_map.specs.Chain.{map_along, pin_of}
+use Rattle.hv_map.specs.Chain.{pin_of}
 use Rattle.hv_map.specs.Held.{IsHeld, Lists}
 use Rattle.hv_map.specs.Item.{Item}
 use Rattle.hv_map.specs.Links.{last_block, syllable_of}
@@ -49,7 +48,7 @@ right_held S R b c more pins rider inner held right = record {
       (right.pins h r p at (ap (λ (ps : List Pin). slice_get ps h) (sym pins) ∙ there) live);
   rider = λ h p is there.
       let before = right.rider h p (sym rider ∙ is) (ap (λ (ps : List Pin). slice_get ps h) (sym pins) ∙ there) in
-      (before.0, before.1 ∙ sym inner);
+      record { live = before.live; regs = before.regs ∙ sym inner };
   held = held;
 }
 
@@ -81,10 +80,13 @@ right_filled S R b c hart r p q more pins rider inner held at was live block rea
     | inl agree ↦
         let same : q ≡ o = set_here b.pins.items hart q o (ap (slice_get (set b.pins.items hart q)) (sym agree.1) ∙ ap (λ (ps : List Pin). slice_get ps h) (sym pins) ∙ there) in
         let before = right.rider h p (sym rider ∙ is) (ap (slice_get b.pins.items) agree.1 ∙ was) in
-        (ap (λ (k : Pin). k.live) (sym same) ∙ live ∙ before.0, ap (λ (k : Pin). regs_at S k.block) (sym same) ∙ ap (regs_at S) block ∙ before.1 ∙ sym inner)
+        record {
+          live = ap (λ (k : Pin). k.live) (sym same) ∙ live ∙ before.live;
+          regs = ap (λ (k : Pin). regs_at S k.block) (sym same) ∙ ap (regs_at S) block ∙ before.regs ∙ sym inner;
+        }
     | inr differ ↦
         let before = right.rider h o (sym rider ∙ is) (set_elsewhere b.pins.items hart h q o differ.1 (ap (λ (ps : List Pin). slice_get ps h) (sym pins) ∙ there)) in
-        (before.0, before.1 ∙ sym inner)
+        record { live = before.live; regs = before.regs ∙ sym inner }
   ];
   held = held;
 }
@@ -102,7 +104,7 @@ pub ready_filled : (S : List ℕ) (r : Regs) (m n : Marked) (p : Pin) (memo : En
     → IsReady S r n (record p { memo = memo })
 ready_filled S r m n p memo more ready right =
     let grown = ready_more S r m n p more ready in
-    record { pin = grown.pin; ends = grown.ends; blocks = grown.blocks; quiet = grown.quiet; memo = right grown.memo }
+    record { pin = grown.pin; path = grown.path; ends = grown.ends; blocks = grown.blocks; quiet = grown.quiet; memo = right grown.memo }
 
 -- what is found of a page on the path of a pin is held of the pin's machines, once what it rests on is marked
 pub held_of_pin : (S : List ℕ) (r : Regs) (m n : Marked) (p : Pin) (path : List ℕ) (page : ℕ) (kept : Kept)

@@ -16,10 +16,12 @@ use Rattle.hv_map.specs.Gathered.{Listed}
 use Rattle.hv_map.specs.Held.{IsPin, Lists}
 use Rattle.hv_map.specs.Item.{Item}
 use Rattle.hv_map.specs.Links.{last_block}
+use Rattle.hv_map.specs.Words.{syllables}
+use Rattle.hv_nest.specs.declared.notes.Note.{Note}
 use Rattle.hv_cache.specs.Holding as holding
 use Rattle.hv_fast.specs.declared.beside.Beside.{Beside}
 use Rattle.hv_fast.specs.declared.pin.Pin.{Pin}
-use Rattle.hv_fast.specs.Beside.{EntriesAreRight, IsReady, IsRightBeside}
+use Rattle.hv_fast.specs.Beside.{EntriesAreRight, IsMounted, IsReady, IsRightBeside}
 use Rattle.hv_fast.specs.Marked.{BlocksIn, IsMore, Marked, listed}
 use Rattle.hv_fast.specs.Memo.{Entries, IsHeldAt, IsRightMemo, entries_for}
 use Rattle.hv_fast.specs.Rides.{Quiet, QuietBlocks}
@@ -37,6 +39,7 @@ memo_more S items m n memo more right = λ a k d lt ne.
 pub ready_more : (S : List ℕ) (r : Regs) (m n : Marked) (p : Pin) → IsMore m n → IsReady S r m p → IsReady S r n p
 ready_more S r m n p more ready = record {
   pin = pin_more S r p.chain m n more ready.pin;
+  path = ready.path;
   ends = ready.ends;
   blocks = blocks_more p.chain m n more ready.blocks;
   quiet = ready.quiet;
@@ -65,7 +68,7 @@ right_more S R b c more pins ids cache rider inner right = record {
       (right.pins h r p at (ap (λ (ps : List Pin). slice_get ps h) (sym pins) ∙ there) live);
   rider = λ h p is there.
       let before = right.rider h p (sym rider ∙ is) (ap (λ (ps : List Pin). slice_get ps h) (sym pins) ∙ there) in
-      (before.0, before.1 ∙ sym inner);
+      record { live = before.live; regs = before.regs ∙ sym inner };
   held = held_same S b c ids cache right.held;
 }
 
@@ -133,10 +136,36 @@ right_mounted S R b c hart p pins marks ids cache rider there live regs right = 
   held = held_same S b c ids cache right.held;
 }
   where
-    here : (h : ℕ) (o : Pin) → hart ≡ h → slice_get b.pins.items h ≡ Some o → (o.live ≡ true) × (regs_at S o.block ≡ c.inner)
+    here : (h : ℕ) (o : Pin) → hart ≡ h → slice_get b.pins.items h ≡ Some o → IsMounted S o c.inner
     here h o e names =
         let same : p ≡ o = same_Some p o (sym there ∙ ap (slice_get b.pins.items) e ∙ names) in
-        (ap (λ (q : Pin). q.live) (sym same) ∙ live, ap (λ (q : Pin). regs_at S q.block) (sym same) ∙ regs)
+        record {
+          live = ap (λ (q : Pin). q.live) (sym same) ∙ live;
+          regs = ap (λ (q : Pin). regs_at S q.block) (sym same) ∙ regs;
+        }
+
+-- the room for notes says nothing
+pub right_noted : (S : List ℕ) (R : List Regs) (b : Beside) (notes : List Note) → IsRightBeside S R b → IsRightBeside S R (record b { notes = notes })
+right_noted S R b notes right =
+    record { count = right.count; pins = right.pins; rider = right.rider; held = right.held }
+
+-- the registers at hand are let go
+pub right_unmounted : (S : List ℕ) (R : List Regs) (b c : Beside)
+    → c.pins.items ≡ b.pins.items
+    → c.marks ≡ b.marks
+    → c.ids ≡ b.ids
+    → c.cache ≡ b.cache
+    → c.rider ≡ None
+    → IsRightBeside S R b
+    → IsRightBeside S R c
+right_unmounted S R b c pins marks ids cache rider right = record {
+  count = ap length pins ∙ right.count;
+  pins = λ h r p at there live.
+      subst (λ (m : Marked). IsReady S r m p) (sym marks)
+      (right.pins h r p at (ap (λ (ps : List Pin). slice_get ps h) (sym pins) ∙ there) live);
+  rider = λ h p is there. absurd (let f : None ≡ Some h = sym rider ∙ is in cc);
+  held = held_same S b c ids cache right.held;
+}
 
 -- the registers of a block that is read
 pub block_regs : (S : List ℕ) (g : ℕ) (b : Block) → Some (contents_of b) ≡ block_of S g → regs_at S g ≡ b.cpu
@@ -169,13 +198,15 @@ pub found_ready : (S : List ℕ) (r : Regs) (m : Marked) (t : Listed) (gs : List
     → t.full ≡ false
     → gs ≡ t.pages
     → Lists (listed m.tables) gs
+    → p.path ≡ syllables p.chain
     → Some p.block ≡ last_block p.chain
     → BlocksIn m.blocks p.chain
     → Quiet S r p.chain
     → IsRightMemo S p.chain m.tables p.memo
     → IsReady S r m p
-found_ready S r m t gs p pin room is lists ends blocks quiet memo = record {
+found_ready S r m t gs p pin room is lists path ends blocks quiet memo = record {
   pin = pin_more S r p.chain tables m more (subst (IsPin S r p.chain) (λ i. record { pages = sym is i; full = room i }) pin);
+  path = path;
   ends = sym ends;
   blocks = blocks;
   quiet = quiet_blocks S r p.chain quiet;

@@ -21,7 +21,7 @@ use Rattle.hv_map.proofs.Holding.{held_stays, pin_stays}
 use Rattle.hv_nest.specs.Changes.{difference_at, differences, differences_to}
 use Rattle.hv_nest.specs.declared.changed.ChangedRow.{ChangedRow}
 use Rattle.hv_cache.specs.Holding.{Entry}
-use Rattle.hv_fast.specs.Beside.{EntriesAreRight, EntryIsRight, IsBlockStill, IsReady, IsRightBeside, IsSpared, IsUnpinned, SamePins}
+use Rattle.hv_fast.specs.Beside.{EntriesAreRight, EntryIsRight, IsBlockStill, IsMounted, IsReady, IsRightBeside, IsSpared, IsUnpinned, SamePins}
 use Rattle.hv_fast.specs.Marked.{BlocksIn, Marked, has_mark, listed}
 use Rattle.hv_fast.specs.Rides.{Quiet, QuietBlocks}
 use Rattle.hv_fast.specs.declared.beside.Beside.{Beside}
@@ -166,6 +166,7 @@ module _ (S T : List ℕ) (long : length S ≡ length T) (m : Marked) (unmarked 
       let says : SaysItems T p.chain = all_say p.chain ready.blocks (placed_says S _ (listed m.tables) 0 p.chain ready.pin.placed) in
       record {
         pin = pin_stays S T r r p.chain (listed m.tables) long tables_same says (all_next p.chain ready.blocks) refl ready.pin;
+        path = ready.path;
         ends = ready.ends;
         blocks = ready.blocks;
         quiet = all_quiet p.chain ready.blocks ready.quiet;
@@ -311,7 +312,7 @@ module _ (S T : List ℕ) (R : List Regs) (h : ℕ) (r : Regs) (a b c : Beside) 
           (right.pins k q p (other_regs R h k r q differ.1 has_regs) (was_pinned k p (in_b k p there) differ.1) live))
     ]
 
-    rider_stays : (k : ℕ) (p : Pin) → c.rider ≡ Some k → slice_get c.pins.items k ≡ Some p → (p.live ≡ true) × (regs_at T p.block ≡ c.inner)
+    rider_stays : (k : ℕ) (p : Pin) → c.rider ≡ Some k → slice_get c.pins.items k ≡ Some p → IsMounted T p c.inner
     rider_stays k p rides there = elim gone.rider [
       | inl none ↦ absurd (let f : None ≡ Some k = sym none ∙ sym same.rider ∙ rides in cc)
       | inr kept ↦
@@ -319,8 +320,11 @@ module _ (S T : List ℕ) (R : List Regs) (h : ℕ) (r : Regs) (a b c : Beside) 
           let was : slice_get a.pins.items k ≡ Some p = was_pinned k p (in_b k p there) ne in
           let before = right.rider k p (sym kept.0 ∙ sym same.rider ∙ rides) was in
           let within : k < length R = omega (arith, slice_get_within a.pins.items k p was, right.count) in
-          let ready = right.pins k (get_or R k r) p (slice_get-get_or R k r within) was before.0 in
-          (before.0, sym (end_same S T long a.marks all_unmarked (get_or R k r) p ready) ∙ before.1 ∙ sym (same.inner ∙ gone.inner))
+          let ready = right.pins k (get_or R k r) p (slice_get-get_or R k r within) was before.live in
+          record {
+            live = before.live;
+            regs = sym (end_same S T long a.marks all_unmarked (get_or R k r) p ready) ∙ before.regs ∙ sym (same.inner ∙ gone.inner);
+          }
     ]
 
   after_right : Dropped T (differences S T) b c → IsRightBeside T (slice_set R h r) c
@@ -377,3 +381,16 @@ pub idle_right : (b : Beside) (n : ℕ)
     → IsRightBeside S R b
 idle_right b n many dead none empty S R long =
     unpinned_right S R b (many ∙ sym long) dead none (subst (λ (es : List Entry). EntriesAreRight S b.ids es) (sym empty) tt)
+
+-- a pin that isn't in use needn't be dropped
+pub unpinned_already : (S : List ℕ) (R : List Regs) (b : Beside) (h : ℕ) (p : Pin) → IsRightBeside S R b → slice_get b.pins.items h ≡ Some p → p.live ≡ false → IsUnpinned h b b
+unpinned_already S R b h p right there off = record {
+  count = refl;
+  own = subst (λ (o : Option Pin). IfSome o (λ (q : Pin). q.live ≡ false)) (sym there) off;
+  others = λ k ne. refl;
+  marks = refl;
+  rider = inr (refl, λ rides. let f : true ≡ false = sym (right.rider h p rides there).live ∙ off in cc);
+  ids = refl;
+  cache = refl;
+  inner = refl;
+}

@@ -1,5 +1,5 @@
 -- All that is kept beside the state is right after a ride.
-use Rattle.std.proofs.Common.{◌≡◌, ℕ, ◌+◌, ◌/◌, ◌<◌, ◌==◌, ◌&&◌, ◌||◌, nat_le, nat_lt, inl, inr, Bool, true, false, List, [], ◌∷◌, map, Option, Some, None, refl, ap, ◌∙◌, sym, subst, slice_get, length}
+use Rattle.std.proofs.Common.{◌≡◌, ℕ, suc, ◌+◌, ◌/◌, ◌<◌, ◌==◌, ◌&&◌, ◌||◌, nat_le, nat_lt, inl, inr, Bool, true, false, List, [], ◌∷◌, map, Option, Some, None, refl, ap, ◌∙◌, sym, subst, slice_get, length}
 use Rattle.std.specs.Prelude.{All, IfNone}
 use Rattle.std.specs.Option.{is_some}
 use Rattle.std.specs.List.{AllByRecursion}
@@ -15,23 +15,26 @@ use Rattle.hv_exec.specs.Act.{act_of}
 use Rattle.hv_store.specs.Access.{identity}
 use Rattle.hv_block.specs.Block.{Contents, fits_hart, fits_pages, is_block, pages_at, regs_at, table_at, version_at}
 use Rattle.hv_block.proofs.Words.{regs_back}
-use Rattle.hv_map.specs.Chain.{along, map_along}
+use Rattle.hv_map.specs.Chain.{along, map_along, pin_of}
 use Rattle.hv_map.specs.Compose.{compose}
 use Rattle.hv_map.specs.Gathered.{bare_gathered_map}
 use Rattle.hv_map.specs.Apart.{blocks_of}
-use Rattle.hv_map.specs.Held.{IsHeld, IsPin, SaysItems}
+use Rattle.hv_map.specs.Held.{SaysItems}
 use Rattle.hv_map.proofs.Slots.{length-composed}
 use Rattle.hv_map.specs.Item.{Item}
-use Rattle.hv_map.specs.Links.{last_block}
+use Rattle.hv_map.specs.Links.{last_block, syllable_of}
+use Rattle.hv_map.proofs.Machines.{pinned_fits}
 use Rattle.hv_nest.specs.Step.{Worked, host_step_of}
+use Rattle.hv_nest.specs.declared.notes.Note.{Note}
 use Rattle.hv_cache.specs.Holding.{Entry}
-use Rattle.hv_fast.specs.Beside.{EntriesAreRight, EntryIsRight, IsReady, IsRightBeside, NoPins}
+use Rattle.hv_fast.specs.Beside.{EntriesAreRight, EntryIsRight, IsMounted, IsReady, IsRightBeside, NoPins}
 use Rattle.hv_fast.specs.declared.beside.Beside.{Beside}
 use Rattle.hv_fast.specs.declared.pin.Pin.{Pin}
 use Rattle.hv_fast.specs.Marked.{BlocksIn, Marked, listed}
 use Rattle.hv_fast.specs.Memo.{Opens}
 use Rattle.hv_fast.specs.Rides.{HasRidden, IsRidden, Quiet, QuietBlocks, marked_by}
 use Rattle.hv_fast.proofs.Descending.{ride}
+use Rattle.hv_fast.proofs.Filling.{own_pin}
 use Rattle.hv_fast.proofs.Growing.{pin_ends}
 use Rattle.hv_fast.proofs.Remembering.{memo_kept, right_opens}
 use Rattle.hv_fast.proofs.Saying.{says_block}
@@ -76,6 +79,7 @@ entries_ride S T U paths (e ∷ es) g q ridden right =
 pin_stays_ready : (S T U : List ℕ) (m : Marked) (g : ℕ) (q r : Regs) (p : Pin) → IsRidden S T U m g q → (regs_at S g).next ≡ 0 → q.next ≡ 0 → IsReady S r m p → IsReady U r m p
 pin_stays_ready S T U m g q r p ridden idle none ready = record {
   pin = pin_rides S T U r q p.chain m g ridden idle none ready.blocks ready.pin;
+  path = ready.path;
   ends = ready.ends;
   blocks = ready.blocks;
   quiet = quiet_rides S T U r q p.chain m g ridden idle ready.blocks ready.pin ready.quiet;
@@ -126,11 +130,33 @@ last_marked gs [] g blocks last = absurd (let f : None ≡ Some g = last in cc)
 last_marked gs (x ∷ []) g blocks last = subst (λ (k : ℕ). has k gs ≡ true) (same_Some x.block g last) blocks.0
 last_marked gs (x ∷ (y ∷ ys)) g blocks last = last_marked gs (y ∷ ys) g blocks.1 last
 
+-- the last of some items, by its place
+record LastFound (items : List Item) (g : ℕ) : Type 0 where
+  place : ℕ
+  item : Item
+  there : slice_get items place ≡ Some item
+  is : item.block ≡ g
+
+last_found : (items : List Item) (g : ℕ) → last_block items ≡ Some g → LastFound items g
+last_found [] g last = absurd (let f : None ≡ Some g = last in cc)
+last_found (x ∷ []) g last = record { place = 0; item = x; there = refl; is = same_Some x.block g last }
+last_found (x ∷ (y ∷ ys)) g last =
+    let e = last_found (y ∷ ys) g last in
+    record { place = suc e.place; item = e.item; there = e.there; is = e.is }
+
+-- the last of the machines on a path has its block in a page of the storage
+last_inside : (S : List ℕ) (items : List Item) (g : ℕ) → pin_of S (map syllable_of items) ≡ Some items → last_block items ≡ Some g → g < page_count S
+last_inside S items g pinned last =
+    let e = last_found items g last in
+    subst (λ (k : ℕ). k < page_count S) e.is (pinned_fits S items e.place e.item pinned e.there).block
+
 -- what a ride asks for is so of the pin of the hart that rode last
 pub record CanRide (S : List ℕ) (b : Beside) (p : Pin) : Type 0 where
   pub memo : Opens S p.chain p.memo
+  pub there : p.block < page_count S
   pub marked : has p.block b.marks.blocks ≡ true
   pub regs : regs_at S p.block ≡ b.inner
+  pub next : b.inner.next ≡ 0
   pub pages : length (map_along S p.chain) ≡ pages_at S p.block
   pub some : 0 < pages_at S p.block
 
@@ -139,17 +165,20 @@ pub can_ride : (S : List ℕ) (R : List Regs) (b : Beside) (h : ℕ) (r : Regs) 
     → slice_get R h ≡ Some r
     → slice_get b.pins.items h ≡ Some p
     → b.rider ≡ Some h
-    → p.live ≡ true
     → CanRide S b p
 unfolding map_along
-can_ride S R b h r p right hart mine rider live =
-    let ready : IsReady S r b.marks p = right.pins h r p hart mine live in
+can_ride S R b h r p right hart mine rider =
+    let mounted : IsMounted S p b.inner = right.rider h p rider mine in
+    let ready : IsReady S r b.marks p = right.pins h r p hart mine mounted.live in
     let says : SaysItems S p.chain = placed_says S (bare_gathered_map (page_count S)) (listed b.marks.tables) 0 p.chain ready.pin.placed in
     let n = last_pages_along p.chain p.block says ready.ends in
     record {
       memo = right_opens S p.chain b.marks.tables p.memo ready.memo;
+      there = last_inside S p.chain p.block (own_pin S r b.marks p ready) ready.ends;
       marked = last_marked b.marks.blocks p.chain p.block ready.blocks ready.ends;
-      regs = (right.rider h p rider mine).1;
+      regs = mounted.regs;
+      next =
+          ap (λ (q : Regs). q.next) (sym mounted.regs) ∙ (pin_ends S r p.chain b.marks p.block ready.pin ready.ends).1;
       pages = n.0;
       some = n.1;
     }
@@ -158,25 +187,27 @@ can_ride S R b h r p right hart mine rider live =
     last_pages_along items g says last = last_pages S (identity (page_count S)) 0 items g says last
 
 -- where no other machine runs then
-pub ridden_right : (S U : List ℕ) (R : List Regs) (b c : Beside) (h : ℕ) (r q : Regs) (p : Pin)
+pub ridden_right : (S U : List ℕ) (R : List Regs) (b c : Beside) (h : ℕ) (r q : Regs) (p : Pin) (notes : List Note)
     → IsRightBeside S R b
     → slice_get R h ≡ Some r
     → slice_get b.pins.items h ≡ Some p
     → b.rider ≡ Some h
-    → p.live ≡ true
     → HasRidden S U b.marks b.cache.entries p.chain p.block b.inner q
     → q.next ≡ 0
-    → c ≡ record b { inner = q }
+    → c ≡ record b { inner = q; notes = notes }
     → IsRightBeside U R c
-ridden_right S U R b c h r q p right hart mine rider live rode none is = subst (IsRightBeside U R) (sym is) now
+ridden_right S U R b c h r q p notes right hart mine rider rode none is = subst (IsRightBeside U R) (sym is) now
   where
+    mounted : IsMounted S p b.inner
+    mounted = right.rider h p rider mine
+
     ready : IsReady S r b.marks p
-    ready = right.pins h r p hart mine live
+    ready = right.pins h r p hart mine mounted.live
 
     idle : (regs_at S p.block).next ≡ 0
     idle = (pin_ends S r p.chain b.marks p.block ready.pin ready.ends).1
 
-    now : IsRightBeside U R (record b { inner = q })
+    now : IsRightBeside U R (record b { inner = q; notes = notes })
     now = record {
       count = right.count;
       pins = λ k s o there found lives.
@@ -184,18 +215,21 @@ ridden_right S U R b c h r q p right hart mine rider live rode none is = subst (
       rider = λ k o says found.
           let same : k ≡ h = same_Some k h (sym says ∙ rider) in
           let here : o ≡ p = same_Some o p (sym found ∙ ap (slice_get b.pins.items) same ∙ mine) in
-          (ap (λ (x : Pin). x.live) here ∙ live, ap (λ (x : Pin). regs_at U x.block) here ∙ own_regs S rode.after U b.marks p.block q rode.marked);
+          record {
+            live = ap (λ (x : Pin). x.live) here ∙ mounted.live;
+            regs = ap (λ (x : Pin). regs_at U x.block) here ∙ own_regs S rode.after U b.marks p.block q rode.marked;
+          };
       held = entries_ride S rode.after U b.ids b.cache.entries p.block q rode.held right.held;
     }
 
 -- where another machine runs then, and all pins are dropped
-pub ridden_dropped : (S U : List ℕ) (R : List Regs) (b c d : Beside) (h : ℕ) (q : Regs) (p : Pin)
+pub ridden_dropped : (S U : List ℕ) (R : List Regs) (b c d : Beside) (h : ℕ) (q : Regs) (p : Pin) (notes : List Note)
     → IsRightBeside S R b
     → HasRidden S U b.marks b.cache.entries p.chain p.block b.inner q
-    → c ≡ record b { inner = q }
+    → c ≡ record b { inner = q; notes = notes }
     → NoPins c d
     → IsRightBeside U R d
-ridden_dropped S U R b c d h q p right rode is dropped = record {
+ridden_dropped S U R b c d h q p notes right rode is dropped = record {
   count = dropped.count ∙ ap (λ (x : Beside). length x.pins.items) is ∙ right.count;
   pins = λ k s o there found lives. absurd (let f : true ≡ false = sym lives ∙ none_live d.pins.items k o dropped.none found in cc);
   rider = λ k o says found. absurd (let f : None ≡ Some k = sym dropped.rider ∙ says in cc);
@@ -213,21 +247,20 @@ pub ridden_step : (S U : List ℕ) (R : List Regs) (b : Beside) (h : ℕ) (r q :
     → slice_get R h ≡ Some r
     → slice_get b.pins.items h ≡ Some p
     → b.rider ≡ Some h
-    → p.live ≡ true
     → pending_of r ≡ None
     → pending_of b.inner ≡ None
     → HasRidden S U b.marks b.cache.entries p.chain p.block b.inner q
     → host_step_of S h r ≡ Worked U r
-ridden_step S U R b h r q p right hart mine rider live quiet idle rode =
-    let ready : IsReady S r b.marks p = right.pins h r p hart mine live in
-    let inner : regs_at S p.block ≡ b.inner = (right.rider h p rider mine).1 in
+ridden_step S U R b h r q p right hart mine rider quiet idle rode =
+    let mounted : IsMounted S p b.inner = right.rider h p rider mine in
+    let ready : IsReady S r b.marks p = right.pins h r p hart mine mounted.live in
     ride S rode.after U h r q p.chain b.marks p.block
     ready.pin
     ready.blocks
     (all_quiet p.chain ready.quiet)
     ready.ends
-    (ap pending_of inner ∙ idle)
-    (ap (λ (k : Regs). act_of S (map_along S p.chain) 0 k) inner ∙ rode.acts)
+    (ap pending_of mounted.regs ∙ idle)
+    (ap (λ (k : Regs). act_of S (map_along S p.chain) 0 k) mounted.regs ∙ rode.acts)
     rode.marked
   where
     all_quiet : (items : List Item) → QuietBlocks S items → Quiet S r items

@@ -7,8 +7,7 @@ use Rattle.hv_word.specs.Storage.{page_count}
 use Rattle.hv_word.specs.Words.{has}
 use Rattle.hv_cpu.specs.Regs.{FitsHart, Regs}
 use Rattle.hv_store.specs.declared.access.Refusal.{Refusal}
-use Rattle.hv_block.specs.Block.{pages_at, put_regs, regs_at}
-use Rattle.hv_block.proofs.Blocks.{regs_alike}
+use Rattle.hv_block.specs.Block.{pages_at, put_regs}
 use Rattle.hv_exec.specs.Act.{Acted, Done, act_of, acted}
 use Rattle.hv_map.specs.Chain.{map_along}
 use Rattle.hv_map.specs.Held.{SamePage, SamePages}
@@ -84,19 +83,6 @@ module _ (S T : List ℕ) (notes : List Note) (origin : undone T notes ≡ S) (P
               parts.0,
           entries_ridden es (λ h rests. all h (or_right (rests_on h e.1) (any_rests_on h es) rests)) parts.1,
         )
-
--- the registers in a block that is marked stay
-pub regs_stay : (S T : List ℕ) (m : Marked) (es : List Entry) (notes : List Note) (g : ℕ)
-    → undone T notes ≡ S
-    → has_noted_mark m es notes ≡ false
-    → has g m.blocks ≡ true
-    → regs_at T g ≡ regs_at S g
-regs_stay S T m es notes g origin none marked =
-    sym (
-    regs_alike S T g g
-    (same_page S T notes origin (λ h. has_mark m h || any_rests_on h es) none g
-    (or_left (has_mark m g) (any_rests_on g es) (or_right (has g m.tables) (has g m.blocks) marked)))
-    )
 
 -- an instruction that isn't refused is done
 done_of : (A : Acted) (T : List ℕ) (q : Regs) (e : Result (Unit {0}) Refusal) → is_err e ≡ false → acted e T q ≡ A → A ≡ Done T q

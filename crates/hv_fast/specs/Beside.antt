@@ -17,10 +17,11 @@ use Rattle.hv_fast.specs.Marked.{BlocksIn, Marked, has_mark, listed}
 use Rattle.hv_fast.specs.Memo.{IsRightMemo}
 use Rattle.hv_fast.specs.Rides.{QuietBlocks}
 
--- The pin is that of a hart with the registers r: its machines are those on the path that the hart runs, it names the block of
--- the last, the machines outside that are quiet, each translation at hand is right, and what all this rests on is marked.
+-- The pin is that of a hart with the registers r: its machines are those on the path that the hart runs, it names that path and
+-- the block of the last, the machines outside that are quiet, each translation at hand is right, and what all this rests on is marked.
 pub record IsReady (S : List ℕ) (r : Regs) (m : Marked) (p : Pin) : Type 0 where
   pub pin : IsPin S r p.chain (listed m.tables)
+  pub path : p.path ≡ syllables p.chain
   pub ends : last_block p.chain ≡ Some p.block
   pub blocks : BlocksIn m.blocks p.chain
   pub quiet : QuietBlocks S p.chain
@@ -37,6 +38,12 @@ pub record EntryIsRight (S : List ℕ) (paths : List (List ℕ)) (e : Entry) : T
 abbrev pub EntriesAreRight : List ℕ → List (List ℕ) → List Entry → Type 0
 EntriesAreRight S paths es = AllByRecursion (EntryIsRight S paths) es
 
+-- The pin is that of the hart that rode last: it is in use, and the registers at hand are those in its block. (That the block is
+-- in a page of the storage, and that no machine runs there, is so of each pin that is ready.)
+pub record IsMounted (S : List ℕ) (p : Pin) (inner : Regs) : Type 0 where
+  pub live : p.live ≡ true
+  pub regs : regs_at S p.block ≡ inner
+
 -- With the storage S and the harts R everything is right: each pin that is in use, the registers of the machine at the end of
 -- the pin of the hart that rode last, and each held translation.
 pub record IsRightBeside (S : List ℕ) (R : List Regs) (b : Beside) : Type 0 where
@@ -51,7 +58,7 @@ pub record IsRightBeside (S : List ℕ) (R : List Regs) (b : Beside) : Type 0 wh
       (h : ℕ) (p : Pin)
       → b.rider ≡ Some h
       → slice_get b.pins.items h ≡ Some p
-      → (p.live ≡ true) × (regs_at S p.block ≡ b.inner)
+      → IsMounted S p b.inner
   pub held : EntriesAreRight S b.ids b.cache.entries
 
 -- no pin is in use, and nothing is marked; numbers and held translations are as before

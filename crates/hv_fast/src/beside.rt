@@ -1,6 +1,6 @@
 //! What is kept beside the state: pins, marks on what they rest on, held translations.
 
-ghost use Rattle.std.specs.Prelude.{◌≡◌, ◌<◌, ◌/◌, ◌⊎◌, ℕ, List, None, true, IfOk, IfNone, IfSome, Some, length, slice_get, slice_set};
+ghost use Rattle.std.specs.Prelude.{◌≡◌, ◌≢◌, ◌<◌, ◌/◌, ◌⊎◌, ℕ, List, None, true, false, IfOk, IfSome, Some, length, slice_get, slice_set};
 ghost use Rattle.std.specs.List.{AllByRecursion};
 ghost use Rattle.hv_word.specs.Storage.{page_count};
 ghost use Rattle.hv_cpu.specs.Regs.{Regs};
@@ -18,7 +18,7 @@ use crate::following::{entered, follow};
 use crate::marks::Marks;
 use crate::memo::Memo;
 use crate::pin::Pin;
-use crate::riding::{Miss, ride};
+use crate::riding::{Asked, Miss, Ridden, ride};
 use crate::translations::hold;
 use hv_block::read_block;
 use hv_cache::MapCache;
@@ -33,8 +33,8 @@ use std::alloc::{AllocError, Global};
 // How many translations are held at most.
 const ENTRIES: usize = 4096;
 
-/// Pins by hart, marks on the pages on which they rest, numbers of paths with held translations, and the registers of the machine
-/// at the end of the pin of the hart that rode last.
+/// Pins by hart, marks on the pages on which they rest, numbers of paths with held translations, the registers of the machine at
+/// the end of the pin of the hart that rode last, and room for the notes of a step.
 #[derive(Drop)]
 pub(crate) struct Beside {
     pub(crate) pins: Vec<Pin>,
@@ -43,6 +43,7 @@ pub(crate) struct Beside {
     pub(crate) cache: MapCache,
     pub(crate) rider: Option<u32>,
     pub(crate) inner: Cpu,
+    pub(crate) notes: Notes,
 }
 
 impl Beside {
@@ -61,6 +62,7 @@ impl Beside {
             cache: MapCache::new(alloc, ENTRIES)?,
             rider: None,
             inner: reset(),
+            notes: Notes::new(),
         })
     }
 
@@ -126,82 +128,90 @@ impl Beside {
             return false;
         }
         self.rider = None;
+        let path = chain.path();
         self.pins[hart as usize] = Pin {
             live: true,
             block,
+            path,
             chain,
             memo: Memo::new(),
         };
         true
     }
 
-    /// One instruction of the machine at the end of the pin of a hart, which rode last, with the words that it changed. There is
-    /// none where that can't be done by the pin; then nothing changed.
+    /// Makes one instruction of the machine at the end of the pin of a hart, which rode last, and tells the words that it changed
+    /// in `changed`. It answers whether that could be done by the pin; else the state stays.
     #[inline(always)]
-    pub(crate) fn ride(&mut self, store: &mut Store, hart: u32) -> Option<Changed>
+    pub(crate) fn ride(&mut self, store: &mut Store, hart: u32, changed: &mut Changed) -> bool
         requires hart { hart < length self.old.pins.items }
         requires rider { self.old.rider ≡ Some hart }
         requires right { (R : List Regs) × (r : Regs) × (slice_get R hart ≡ Some r) × IsRightBeside store.old R self.old }
         ensures right { (R : List Regs) (r : Regs) → slice_get R hart ≡ Some r → IsRightBeside store.old R self.old → IsRightBeside store.new R self.new }
-        ensures rode { IfSome result (λ rows. (R : List Regs) (r : Regs) → slice_get R hart ≡ Some r → IsRightBeside store.old R self.old
-            → pending_of r ≡ None → host_step_of store.old hart r ≡ Worked store.new r) }
-        ensures changed { IfSome result (λ rows. rows ≡ differences store.old store.new) }
-        ensures none { IfNone result (store.new ≡ store.old) }
+        ensures rode { result ≡ true → (R : List Regs) (r : Regs) → slice_get R hart ≡ Some r → IsRightBeside store.old R self.old
+            → pending_of r ≡ None → host_step_of store.old hart r ≡ Worked store.new r }
+        ensures changed { result ≡ true → changed.new ≡ differences store.old store.new }
+        ensures not { result ≡ false → store.new ≡ store.old }
         ensures len { length store.new ≡ length store.old }
         ensures count { length self.new.pins.items ≡ length self.old.pins.items }
     {
-        let mut missed = None;
-        let changed = self.one(store, hart, &mut missed);
-        if let Some(miss) = missed {
+        let mut asked = Asked::nothing();
+        let rode = self.one(store, hart, changed, &mut asked);
+        if let Some(miss) = asked.missed {
             self.fill(store, hart, miss);
         }
-        changed
+        rode
     }
 
-    // The same, with the page that wasn't at hand, if there was one.
+    // The same, with what the instruction asked for.
     #[inline(always)]
     #[tactic(auto, using(crate::proofs::Riders::riders))]
-    fn one(&mut self, store: &mut Store, hart: u32, missed: &mut Option<Miss>) -> Option<Changed>
+    fn one(
+        &mut self,
+        store: &mut Store,
+        hart: u32,
+        changed: &mut Changed,
+        asked: &mut Asked,
+    ) -> bool
         requires hart { hart < length self.old.pins.items }
         requires rider { self.old.rider ≡ Some hart }
         requires right { (R : List Regs) × (r : Regs) × (slice_get R hart ≡ Some r) × IsRightBeside store.old R self.old }
         ensures right { (R : List Regs) (r : Regs) → slice_get R hart ≡ Some r → IsRightBeside store.old R self.old → IsRightBeside store.new R self.new }
-        ensures rode { IfSome result (λ rows. (R : List Regs) (r : Regs) → slice_get R hart ≡ Some r → IsRightBeside store.old R self.old
-            → pending_of r ≡ None → host_step_of store.old hart r ≡ Worked store.new r) }
-        ensures changed { IfSome result (λ rows. rows ≡ differences store.old store.new) }
-        ensures none { IfNone result (store.new ≡ store.old) }
+        ensures rode { result ≡ true → (R : List Regs) (r : Regs) → slice_get R hart ≡ Some r → IsRightBeside store.old R self.old
+            → pending_of r ≡ None → host_step_of store.old hart r ≡ Worked store.new r }
+        ensures changed { result ≡ true → changed.new ≡ differences store.old store.new }
+        ensures not { result ≡ false → store.new ≡ store.old }
         ensures len { length store.new ≡ length store.old }
         ensures count { length self.new.pins.items ≡ length self.old.pins.items }
     {
-        let pin = &self.pins[hart as usize];
-        let inner = &self.inner;
-        if !pin.live
-            || entered(inner).is_some()
-            || pending(inner).is_some()
-            || pin.block >= store.pages()
-        {
-            return None;
+        if pending(&self.inner).is_some() {
+            return false;
         }
-        let mut notes = Notes::new();
-        let rode = ride(
+        let pin = &self.pins[hart as usize];
+        self.notes.clear();
+        match ride(
             store,
-            &mut notes,
+            &mut self.notes,
             &pin.chain,
             &pin.memo,
             pin.block,
             &self.marks,
             &self.cache,
             &mut self.inner,
-            missed,
-        );
-        if !rode {
-            return None;
+            asked,
+        ) {
+            Ridden::Made => {}
+            Ridden::Refused => return false,
+            Ridden::Undone => {
+                self.rider = None;
+                return false;
+            }
         }
+        self.notes.tell(store, changed);
         if entered(&self.inner).is_some() {
             // Another machine runs now, also for other harts that run this one.
             self.drop_pins();
         }
-        Some(notes.changed(store))
+        true
     }
 
     /// The path of the machine that a hart with these registers runs.
@@ -212,10 +222,30 @@ impl Beside {
     {
         let pin = &self.pins[hart as usize];
         if pin.live {
-            pin.chain.path()
+            pin.path.copied()
         } else {
             path_of(store, cpu)
         }
+    }
+
+    /// Whether a hart with these registers runs the machine on a path, or, on the empty path, none.
+    #[inline(always)]
+    pub(crate) fn runs(&self, store: &Store, cpu: &Cpu, hart: u32, path: &Path) -> bool
+        requires hart { hart < length self.now.pins.items }
+        requires next { NextBelow (page_count store.now) cpu.now }
+        ensures yes { result ≡ true → (R : List Regs) → slice_get R hart ≡ Some cpu.now → IsRightBeside store.now R self.now
+            → path.now ≡ running_path store.now cpu.now }
+        ensures no { result ≡ false → (R : List Regs) → slice_get R hart ≡ Some cpu.now → IsRightBeside store.now R self.now
+            → path.now ≢ running_path store.now cpu.now }
+    {
+        if entered(cpu).is_none() {
+            return path.len() == 0;
+        }
+        let pin = &self.pins[hart as usize];
+        if pin.live {
+            return is_same(&pin.path, path);
+        }
+        is_same(&path_of(store, cpu), path)
     }
 
     // Puts a translation at hand that was missed, where it is held or can be.
@@ -230,7 +260,7 @@ impl Beside {
         if !pin.live || miss.page >= pin.chain.pages(store) {
             return;
         }
-        let path = pin.chain.path();
+        let path = pin.path.copied();
         hold(&mut self.ids, &mut self.cache, store, &path, miss.page);
         let Some(number) = self.ids.find(&path) else {
             return;
@@ -263,19 +293,23 @@ impl Beside {
         }
     }
 
-    // Drops the pin of a hart.
+    // Drops the pin of a hart, if it is in use.
     #[inline(always)]
     fn unpin(&mut self, hart: u32)
         requires hart { hart < length self.old.pins.items }
-        ensures { IsUnpinned hart self.old self.new }
+        ensures gone { (S : List ℕ) (R : List Regs) → IsRightBeside S R self.old → IsUnpinned hart self.old self.new }
+        ensures count { length self.new.pins.items ≡ length self.old.pins.items }
     {
-        self.pins[hart as usize].live = false;
-        if self.rider == Some(hart) {
-            self.rider = None;
+        if self.pins[hart as usize].live {
+            self.pins[hart as usize].live = false;
+            if self.rider == Some(hart) {
+                self.rider = None;
+            }
         }
     }
 
     // Drops what rests on a word that changed.
+    #[inline(always)]
     fn spare(&mut self, store: &Store, at: u32)
         ensures dropped { WordIsSpared store.now at self.old self.new }
     {
@@ -298,7 +332,17 @@ impl Beside {
     }
 }
 
+// Whether two paths are the same.
+#[inline(always)]
+fn is_same(path: &Path, other: &Path) -> bool
+    ensures yes { result ≡ true → other.now ≡ path.now }
+    ensures no { result ≡ false → other.now ≢ path.now }
+{
+    path.as_slice() == other.as_slice()
+}
+
 // Drops the translations that rest on a word that changed.
+#[inline(always)]
 fn forget(cache: &mut MapCache, store: &Store, at: u32)
     ensures spared { AllByRecursion (IsSpared store.now at) cache.new.entries }
     ensures fewer { (cache.new.entries ≡ cache.old.entries) ⊎ (cache.new.entries ≡ without_page (at / 1024) cache.old.entries) }
@@ -313,6 +357,7 @@ fn forget(cache: &mut MapCache, store: &Store, at: u32)
 
 // Whether a block in a page says what it did of its machine after one word in it changed: the word isn't one of those that
 // say it, and the block is well formed.
+#[inline(never)]
 fn is_block_still(store: &Store, page: u32, word: u32) -> bool
     ensures { result ≡ true → IsBlockStill store.now page word }
 {

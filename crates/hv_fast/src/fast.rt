@@ -1,6 +1,6 @@
 //! The engine that keeps pins and held translations beside the state.
 
-ghost use Rattle.std.specs.Prelude.{◌≡◌, ◌<◌, All, IfOk, IfSome, IfNone, List, ℕ, length};
+ghost use Rattle.std.specs.Prelude.{◌≡◌, ◌<◌, All, IfOk, List, ℕ, length, true, false};
 ghost use Rattle.hv_word.specs.Storage.{page_count};
 ghost use Rattle.hv_nest.specs.Changes.{differences};
 ghost use Rattle.hv_nest.specs.Frame.{IsFramedBy};
@@ -9,10 +9,11 @@ ghost use Rattle.hv_nest.specs.Move.{moved_of, running_of};
 ghost use Rattle.hv_nest.specs.declared.outcome.StepKind.TheVariants.{Worked as WorkedKind};
 
 use crate::beside::Beside;
+use crate::following::entered;
 use hv_cpu::Cpu;
 use hv_csr::pending;
 use hv_map::Path;
-use hv_nest::{Changed, Harts, Nested, Outcome, StepKind, path_of};
+use hv_nest::{Changed, Harts, Nested, Outcome, StepKind};
 use hv_store::Store;
 use std::alloc::{AllocError, Global};
 use std::marker::Model;
@@ -54,41 +55,42 @@ impl Fast {
         })
     }
 
-    // The step of a hart by its pin, with the words that it changed; none where it has to be found anew, and then nothing changed.
+    // The step of a hart by its pin, with the words that it changed told in `changed`. It answers whether that could be done; else
+    // the state stays.
     #[inline(always)]
-    fn ride(&mut self, hart: u32) -> Option<Changed>
+    fn ride(&mut self, hart: u32, changed: &mut Changed) -> bool
         requires { hart < length self.old.state.harts }
-        ensures moves { IfSome result (λ rows. record { kind = WorkedKind; state = self.new.state } ≡ moved_of self.old.state hart) }
-        ensures changed { IfSome result (λ rows. rows ≡ differences self.old.state.storage self.new.state.storage) }
-        ensures frame { IfSome result (λ rows. IsFramedBy self.old.state.storage (running_of self.old.state hart) self.new.state.storage) }
-        ensures none { IfNone result (self.new.state ≡ self.old.state) }
+        ensures moves { result ≡ true → record { kind = WorkedKind; state = self.new.state } ≡ moved_of self.old.state hart }
+        ensures changed { result ≡ true → changed.new ≡ differences self.old.state.storage self.new.state.storage }
+        ensures frame { result ≡ true → IsFramedBy self.old.state.storage (running_of self.old.state hart) self.new.state.storage }
+        ensures not { result ≡ false → self.new.state ≡ self.old.state }
         ensures harts { length self.new.state.harts ≡ length self.old.state.harts }
         ensures len { length self.new.state.storage ≡ length self.old.state.storage }
     {
         let cpu = self.harts.at(hart);
-        if cpu.next.is_none()
+        if entered(cpu).is_none()
             || pending(cpu).is_some()
             || !self.beside.ready(&self.store, cpu, hart)
         {
-            return None;
+            return false;
         }
-        self.beside.ride(&mut self.store, hart)
+        self.beside.ride(&mut self.store, hart, changed)
     }
 
     // The step of a hart, found anew.
     #[inline(always)]
-    fn step_anew(&mut self, hart: u32) -> Outcome
+    fn step_anew(&mut self, hart: u32, outcome: &mut Outcome)
         requires { hart < length self.old.state.harts }
-        ensures moves { record { kind = result.kind; state = self.new.state } ≡ moved_of self.old.state hart }
-        ensures changed { result.changed ≡ differences self.old.state.storage self.new.state.storage }
+        ensures moves { record { kind = outcome.new.kind; state = self.new.state } ≡ moved_of self.old.state hart }
+        ensures changed { outcome.new.changed ≡ differences self.old.state.storage self.new.state.storage }
         ensures frame { IsFramedBy self.old.state.storage (running_of self.old.state hart) self.new.state.storage }
         ensures harts { length self.new.state.harts ≡ length self.old.state.harts }
         ensures len { length self.new.state.storage ≡ length self.old.state.storage }
     {
         let _pages = self.store.pages();
-        let outcome = self.harts.step(&mut self.store, hart);
+        self.harts
+            .step_into(&mut self.store, &mut self.beside.notes, hart, outcome);
         self.beside.after(&self.store, hart, &outcome.changed);
-        outcome
     }
 }
 
@@ -98,12 +100,10 @@ impl Nested for Fast {
     #[inline(always)]
     fn step_into(&mut self, hart: u32, outcome: &mut Outcome) {
         let _pages = self.store.pages();
-        match self.ride(hart) {
-            Some(changed) => {
-                outcome.kind = StepKind::Worked;
-                outcome.changed = changed;
-            }
-            None => *outcome = self.step_anew(hart),
+        if self.ride(hart, &mut outcome.changed) {
+            outcome.kind = StepKind::Worked;
+        } else {
+            self.step_anew(hart, outcome);
         }
     }
 
@@ -115,11 +115,10 @@ impl Nested for Fast {
         self.beside.path(&self.store, self.harts.at(hart), hart)
     }
 
+    #[inline(always)]
     fn runs(&self, hart: u32, path: &Path) -> bool {
         self.beside
-            .path(&self.store, self.harts.at(hart), hart)
-            .as_slice()
-            == path.as_slice()
+            .runs(&self.store, self.harts.at(hart), hart, path)
     }
 
     fn cpu(&self, hart: u32) -> Cpu {

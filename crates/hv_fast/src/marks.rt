@@ -65,6 +65,7 @@ impl Marks {
     }
 
     /// Whether a page is marked as one of tables or directories.
+    #[inline(always)]
     pub(crate) fn is_table(&self, page: u32) -> bool
         ensures { result ≡ has page self.now.tables }
     {

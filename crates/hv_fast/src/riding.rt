@@ -1,6 +1,6 @@
 //! One instruction of the machine at the end of a pinned path, by translations at hand.
 
-ghost use Rattle.std.specs.Prelude.{◌≡◌, ◌≢◌, ◌<◌, ◌≤◌, [], true, false, OnErr, Some, length};
+ghost use Rattle.std.specs.Prelude.{◌≡◌, ◌≢◌, ◌<◌, ◌≤◌, [], true, OnErr, Some, length};
 ghost use Rattle.hv_word.specs.Words.{IsLane, has, lane_with};
 ghost use Rattle.hv_word.specs.Storage.{page_count, with_word, word_at};
 ghost use Rattle.hv_cpu.specs.Regs.{FitsHart};
@@ -19,7 +19,7 @@ use hv_cache::MapCache;
 use hv_cpu::Cpu;
 use hv_exec::act;
 use hv_map::{Chain, View, page_slot};
-use hv_nest::{Notes, put_changed, put_fault};
+use hv_nest::{Notes, put_cpu, put_fault};
 use hv_store::{Access, Refusal, Space, Store, Way};
 use hv_word::{Lane, lane_put};
 
@@ -30,6 +30,47 @@ pub(crate) struct Miss {
     pub(crate) access: Access,
 }
 
+/// What an instruction asked for that is of use after it: the page that it missed last, if any, and the word that it fetched.
+#[derive(Clone, Copy)]
+pub(crate) struct Asked {
+    pub(crate) missed: Option<Miss>,
+    fetched: u32,
+}
+
+impl Asked {
+    /// Nothing was asked for.
+    #[inline(always)]
+    pub(crate) fn nothing() -> Asked {
+        Asked {
+            missed: None,
+            fetched: 0,
+        }
+    }
+
+    // Keeps a word that was read, if it was fetched.
+    #[inline(always)]
+    fn keep(&mut self, word: u32, access: Access) {
+        if let Access::Fetch = access {
+            self.fetched = word;
+        }
+    }
+
+    // The register that the instruction changed, if it changed one of x1 to x31: nearly every one has its number there.
+    #[inline(always)]
+    fn register(&self) -> u32 {
+        (self.fetched >> 7) & 31
+    }
+}
+
+/// What came of riding: one instruction was made; or it can't be made so, and nothing changed; or something rests on a word that
+/// it wrote, and the storage is as before, while the registers at hand are not.
+#[derive(Clone, Copy)]
+pub(crate) enum Ridden {
+    Made,
+    Refused,
+    Undone,
+}
+
 /// The store as the last machine of a chain sees it, where pages are found at hand, if they are there, and the words that change
 /// are noted.
 #[derive(Drop)]
@@ -38,7 +79,7 @@ pub(crate) struct Riding<'a> {
     pub(crate) chain: &'a Chain,
     pub(crate) memo: &'a Memo,
     pub(crate) notes: &'a mut Notes,
-    pub(crate) missed: &'a mut Option<Miss>,
+    pub(crate) asked: &'a mut Asked,
     ghost exact: { is_exact store.now notes.now ≡ true },
     ghost right: { AreOpen (undone store.now notes.now) chain.now memo.now },
 }
@@ -72,9 +113,11 @@ impl Space for Riding<'_> {
     fn read(&mut self, page: u32, word: u32, access: Access) -> Result<u32, Refusal> {
         let _pages = self.chain.pages(self.store);
         if let Some(host) = self.memo.get(page, access) {
-            return Ok(block_word(self.store, host, word));
+            let value = block_word(self.store, host, word);
+            self.asked.keep(value, access);
+            return Ok(value);
         }
-        *self.missed = Some(Miss { page, access });
+        self.asked.missed = Some(Miss { page, access });
         View {
             store: self.store,
             chain: self.chain,
@@ -89,7 +132,7 @@ impl Space for Riding<'_> {
             put_lane(self.store, self.notes, host, word, lane, value);
             return Ok(());
         }
-        *self.missed = Some(Miss {
+        self.asked.missed = Some(Miss {
             page,
             access: Access::Write,
         });
@@ -134,8 +177,9 @@ fn put_lane(store: &mut Store, notes: &mut Notes, page: u32, word: u32, lane: La
 }
 
 /// Makes one instruction of the last machine of a chain, whose registers `cpu` are those in its block in bare page `block`, and
-/// puts its registers into its block. It answers whether it did: not where its map refuses, nor where something rests on a
-/// word that the instruction writes, or on its block as on a table; then nothing changed.
+/// puts its registers into its block. It isn't made where the machine's map refuses, nor where something rests on its block as on
+/// a table; and it is undone where something rests on a word that it writes.
+#[inline(always)]
 pub(crate) fn ride(
     store: &mut Store,
     notes: &mut Notes,
@@ -145,8 +189,8 @@ pub(crate) fn ride(
     marks: &Marks,
     cache: &MapCache,
     cpu: &mut Cpu,
-    missed: &mut Option<Miss>,
-) -> bool
+    asked: &mut Asked,
+) -> Ridden
     requires fresh { notes.old ≡ [] }
     requires memo { Opens store.old chain.now memo.now }
     requires there { block < page_count store.old }
@@ -157,24 +201,23 @@ pub(crate) fn ride(
     requires some { 0 < pages_at store.old block }
     ensures origin { undone store.new notes.new ≡ store.old }
     ensures len { length store.new ≡ length store.old }
-    ensures rode { result ≡ true → HasRidden store.old store.new marks.now cache.now.entries chain.now block cpu.old cpu.new }
-    ensures not { result ≡ false → (store.new ≡ store.old) × (cpu.new ≡ cpu.old) × (notes.new ≡ []) }
+    ensures made { result ≡ Ridden.Made → HasRidden store.old store.new marks.now cache.now.entries chain.now block cpu.old cpu.new }
+    ensures refused { result ≡ Ridden.Refused → (store.new ≡ store.old) × (cpu.new ≡ cpu.old) }
+    ensures undone { result ≡ Ridden.Undone → store.new ≡ store.old }
 {
     if marks.is_table(block) || cache.table_watched(block) {
-        return false;
+        return Ridden::Refused;
     }
-    let before = *cpu;
-    if act_along(store, notes, chain, memo, cpu, missed).is_err() {
-        return false;
+    if act_along(store, notes, chain, memo, cpu, asked).is_err() {
+        return Ridden::Refused;
     }
     if any_marked(marks, cache, notes) {
         notes.undo(store);
-        *cpu = before;
-        return false;
+        return Ridden::Undone;
     }
     fits(cpu);
-    put_changed(store, notes, block, &before, cpu);
-    true
+    put_cpu(store, notes, block, cpu, asked.register());
+    Ridden::Made
 }
 
 // One instruction of the last machine of a chain, by translations at hand. Where it is refused nothing changed.
@@ -186,7 +229,7 @@ fn act_along(
     chain: &Chain,
     memo: &Memo,
     cpu: &mut Cpu,
-    missed: &mut Option<Miss>,
+    asked: &mut Asked,
 ) -> Result<(), Refusal>
     requires fresh { notes.old ≡ [] }
     requires memo { Opens store.old chain.now memo.now }
@@ -202,7 +245,7 @@ fn act_along(
         chain,
         memo,
         notes,
-        missed,
+        asked,
     };
     act(cpu, 0, &mut riding)
 }

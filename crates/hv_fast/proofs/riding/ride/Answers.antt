@@ -1,7 +1,7 @@
 -- What was ridden is what the definition says.
 use Rattle.std.proofs.Common.{◌∙◌, sym}
 use Rattle.hv_nest.proofs.Counts.{undone_none}
-use Rattle.hv_fast.proofs.Sparing.{has_ridden, next_below, regs_stay}
+use Rattle.hv_fast.proofs.Sparing.{has_ridden, next_below}
 use Rattle.hv_fast.proofs.riding.ride.Goals as goal
 
 pub returns-then-is_table-clause-origin : goal.returns-then-is_table-clause-origin
@@ -11,17 +11,9 @@ pub returns-then-any_marked-clause-origin : goal.returns-then-any_marked-clause-
 returns-then-any_marked-clause-origin c =
     undone_none c.undo.new.store c.undo.new.self c.undo.ensures.none ∙ c.undo.ensures.store ∙ c.act_along.ensures.noted.origin
 
-pub put_changed-requires-clause-before : goal.put_changed-requires-clause-before
-put_changed-requires-clause-before c =
-    regs_stay c.args.store.now c.act_along.new.store c.args.marks.now c.args.cache.now.entries c.act_along.new.notes c.args.block
-    c.act_along.ensures.noted.origin
-    (sym c.any_marked.ensures ∙ c.if-any_marked.false)
-    c.requires.marked
-    ∙ c.requires.cpu
-
-pub returns-clause-rode : goal.returns-clause-rode
-returns-clause-rode c = λ _.
-    has_ridden c.args.store.now c.act_along.new.store c.put_changed.new.store c.args.marks.now c.args.cache.now.entries c.args.chain.now c.act_along.new.notes c.args.block c.args.cpu.now c.act_along.new.cpu c.act_along.result
+pub returns-clause-made : goal.returns-clause-made
+returns-clause-made c = λ _.
+    has_ridden c.args.store.now c.act_along.new.store c.put_cpu.new.store c.args.marks.now c.args.cache.now.entries c.args.chain.now c.act_along.new.notes c.args.block c.args.cpu.now c.act_along.new.cpu c.act_along.result
     c.act_along.ensures.noted.origin
     c.act_along.ensures.noted.len
     (sym c.any_marked.ensures ∙ c.if-any_marked.false)
@@ -30,6 +22,6 @@ returns-clause-rode c = λ _.
     c.requires.there
     c.fits.ensures
     (next_below c.act_along.new.cpu.next _ _ c.act_along.ensures.next c.requires.pages c.requires.some)
-    c.put_changed.ensures.put
+    c.put_cpu.ensures.put
     (sym c.is_err.ensures.value ∙ c.if-is_err.false)
     c.act_along.ensures.acts

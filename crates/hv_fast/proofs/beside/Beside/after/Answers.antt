@@ -19,7 +19,7 @@ pub returns-clause-right : goal.returns-clause-right
 returns-clause-right c = λ S R r right long all.
     all_right S c.args.store.now R c.args.hart r c.args.self.now c.unpin.new.self c.loop-row.self _ c.args.changed.now
     (take_all c.loop-row.row-index c.as_slice-row-items.result.now c.loop-row-test.false ∙ c.as_slice-row-items.ensures)
-    c.unpin.ensures c.loop-row.invariant right long all
+    (c.unpin.ensures.gone S R right) c.loop-row.invariant right long all
 
 pub returns-clause-count : goal.returns-clause-count
 returns-clause-count c = c.loop-row.invariant.count ∙ c.unpin.ensures.count

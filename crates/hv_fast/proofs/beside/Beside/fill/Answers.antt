@@ -1,12 +1,11 @@
 -- The page is one of the machine at the end of the pin, so what is held of it can be put at hand.
-use Rattle.std.proofs.Common.{◌≡◌, ◌<◌, ℕ, List, true, Some, length, map, refl, ap, ◌∙◌, sym, subst, arith, slice_get}
+use Rattle.std.proofs.Common.{◌≡◌, ◌<◌, ℕ, List, true, Some, length, refl, ap, ◌∙◌, sym, subst, arith, slice_get}
 use Rattle.std.proofs.lemmas.Option.{same_Some, slice_get_read}
 use Rattle.hv_store.specs.declared.access.Slot.{Slot}
 use Rattle.hv_store.specs.declared.access.Way.TheVariants.{Open}
 use Rattle.hv_store.specs.Access.{way_for}
 use Rattle.hv_map.specs.Chain.{map_along, pin_of}
 use Rattle.hv_map.specs.Held.{Lists}
-use Rattle.hv_map.specs.Links.{syllable_of}
 use Rattle.hv_cache.specs.Holding.{Holding, same}
 use Rattle.hv_fast.specs.declared.pin.Pin.{Pin}
 use Rattle.hv_fast.specs.Beside.{EntriesAreRight, EntryIsRight}
@@ -21,7 +20,7 @@ hold-requires-clause-path c =
     let pins = c.args.self.now.pins.items in
     let there : slice_get pins c.args.hart ≡ Some p = slice_get_read pins (length pins) c.args.hart p refl c.requires.hart c.index-pin.ensures in
     let ready = c.requires.right.3.pins c.args.hart c.requires.right.1 p c.requires.right.2 there c.if-not-pin.false in
-    λ empty. some_path p.chain p.block ready.ends (sym c.path-path.ensures ∙ empty)
+    λ empty. some_path p.chain p.block ready.ends (sym (c.copied-path.ensures ∙ ready.path) ∙ empty)
 
 pub hold-requires-clause-page : goal.hold-requires-clause-page
 hold-requires-clause-page c =
@@ -30,7 +29,7 @@ hold-requires-clause-page c =
     let there : slice_get pins c.args.hart ≡ Some p = slice_get_read pins (length pins) c.args.hart p refl c.requires.hart c.index-pin.ensures in
     let ready = c.requires.right.3.pins c.args.hart c.requires.right.1 p c.requires.right.2 there c.if-not-pin.false in
     let inside : c.args.miss.page < length (map_along c.args.store.now p.chain) = omega (arith, c.if-miss-pages.false, c.pages.ensures.pages) in
-    (p.chain, ap (pin_of c.args.store.now) c.path-path.ensures ∙ own_pin c.args.store.now c.requires.right.1 c.args.self.now.marks p ready, inside)
+    (p.chain, ap (pin_of c.args.store.now) (c.copied-path.ensures ∙ ready.path) ∙ own_pin c.args.store.now c.requires.right.1 c.args.self.now.marks p ready, inside)
 
 pub returns-in_default-entry-clause-right : goal.returns-in_default-entry-clause-right
 returns-in_default-entry-clause-right c = λ R r at right.
@@ -68,11 +67,11 @@ returns-clause-right c = λ R r at right.
     let is : old ≡ p = same_Some old p (sym there_old ∙ there) in
     let live : p.live ≡ true = ap (λ (q : Pin). q.live) (sym is) ∙ c.if-not-pin.false in
     let ready = right.pins hart r p at there live in
-    let path = c.path-path.ensures ∙ ap (λ (q : Pin). map syllable_of q.chain) is in
-    let found = finds_held S c.hold.new.ids c.hold.new.cache.entries c.in-Some.number c.path-path.result page kept c.in-Some.ensures.found c.hold.ensures.right
+    let path = c.copied-path.ensures ∙ ap (λ (q : Pin). q.path) is ∙ ready.path in
+    let found = finds_held S c.hold.new.ids c.hold.new.cache.entries c.in-Some.number c.copied-path.result page kept c.in-Some.ensures.found c.hold.ensures.right
     (sym c.in-Some-entry.ensures.found) in
     let lists = subst (λ (gs : List ℕ). Lists (listed c.mark_all.new.self.tables) gs) c.tables.ensures (c.if-not-mark_all.ensures.tables refl) in
-    let held = held_of_pin S r b.marks c.mark_all.new.self p c.path-path.result page kept ready path found lists in
+    let held = held_of_pin S r b.marks c.mark_all.new.self p c.copied-path.result page kept ready path found lists in
     let opens : way_for kept.slot c.args.miss.access ≡ Open c.in-Some-opened.host =
     ap (λ (s : Slot). way_for s c.args.miss.access) (sym c.slot.ensures) ∙ c.in-Some-opened.ensures in
     right_filled S R b _ hart r p (record p { memo = c.set.new.self }) c.mark_all.ensures.more refl refl refl

@@ -1,5 +1,5 @@
 -- The hart's next stays, and with it every pin.
-use Rattle.std.proofs.Common.{◌≡◌, ◌<◌, Option, List, IfSome, length, set, ap, sym, subst}
+use Rattle.std.proofs.Common.{◌≡◌, ◌<◌, Option, IfSome, length, set, ap, sym, subst}
 use Rattle.hv_cpu.specs.Lines.{lined_of}
 use Rattle.hv_cpu.specs.Regs.{Regs}
 use Rattle.hv_fast.specs.Engine.{Engine}

@@ -8,6 +8,7 @@ use Rattle.hv_cpu.specs.Regs.{Regs, file_of}
 use Rattle.hv_block.specs.Block.{put_regs, regs_at}
 use Rattle.hv_exec.specs.Changes.{changed_regs, differing}
 use Rattle.hv_nest.specs.Noted.{control_of}
+use Rattle.hv_nest.specs.Rows.{rows_limit}
 use Rattle.hv_nest.proofs.Puts.{block_changes, count_step, differing_more, differing_nil, differing_part, room_step}
 use Rattle.hv_nest.proofs.Undone.{same_or_other}
 
@@ -91,7 +92,7 @@ sets_one S (w ∷ ws) at (suc k) long one lt ne =
     (λ other. absurd (omega (arith, behind_other S ws at w 1 inside one other, differing_here (drop (suc at) S) ws k in_range shorter (λ q. far (sym (get_or-drop (suc at) S k 0) ∙ q)))))
 
 -- one word of a row: there is room where it changes
-pub likely_room : (O ws : List ℕ) (at k place n : ℕ) → place ≡ at + k → k < length ws → at + length ws ≤ length O → n + differing (drop at O) ws ≤ 8 → get_or O place 0 ≢ get_or ws k 0 → n < 8
+pub likely_room : (O ws : List ℕ) (at k place n : ℕ) → place ≡ at + k → k < length ws → at + length ws ≤ length O → n + differing (drop at O) ws ≤ rows_limit → get_or O place 0 ≢ get_or ws k 0 → n < rows_limit
 likely_room O ws at k place n p lt long room ne =
     let few : n ≤ n + differing (drop at O) (take k ws) = omega arith in
     room_step O ws at k place n n p lt long few room ne
@@ -180,8 +181,8 @@ parts O g q long =
     omega (arith, whole, rest, near, last, all)
 
 -- there is room for each part, and few are noted in all
-module _ (O : List ℕ) (g n pc : ℕ) (q : Regs) (long : 1024 * g + 65 ≤ length O) (first : pc ≡ q.pc) (room : n + changed_regs (regs_at O g) q ≤ 8) where
-  pub pc_room : get_or O (1024 * g) 0 ≢ pc → n < 8
+module _ (O : List ℕ) (g n pc : ℕ) (q : Regs) (long : 1024 * g + 65 ≤ length O) (first : pc ≡ q.pc) (room : n + changed_regs (regs_at O g) q ≤ rows_limit) where
+  pub pc_room : get_or O (1024 * g) 0 ≢ pc → n < rows_limit
   pc_room ne =
       let one : ◌≡◌ {A = ℕ} (cond (get_or O (1024 * g) 0 == q.pc) 0 1) 1 = other_one O (1024 * g) q.pc (λ e. ne (e ∙ sym first)) in
       omega (arith, one, parts O g q long, room)
@@ -193,7 +194,7 @@ module _ (O : List ℕ) (g n pc : ℕ) (q : Regs) (long : 1024 * g + 65 ≤ leng
     file_part : differing (drop (1024 * g + 1) O1) xs ≡ differing (drop (1024 * g + 1) O) (drop 1 (file_of q))
     file_part = (λ i. differing (drop (1024 * g + 1) (origin1 i)) (file i))
 
-    pub file_room : m1 + differing (drop (1024 * g + 1) O1) xs ≤ 8
+    pub file_room : m1 + differing (drop (1024 * g + 1) O1) xs ≤ rows_limit
     file_room = omega (arith, pc_count, file_part, parts O g q long, room)
 
     module _ (O2 : List ℕ) (m2 : ℕ) (origin2 : O2 ≡ O1) (few2 : m2 ≤ m1 + differing (drop (1024 * g + 1) O1) xs) (cs : List ℕ) (control : cs ≡ control_of q) where
@@ -202,14 +203,14 @@ module _ (O : List ℕ) (g n pc : ℕ) (q : Regs) (long : 1024 * g + 65 ≤ leng
           ap (λ (X : List ℕ). differing (drop (1024 * g + 32) X) cs) (origin2 ∙ origin1)
           ∙ ap (λ (ys : List ℕ). differing (drop (1024 * g + 32) O) ys) control
 
-      pub control_room : m2 + differing (drop (1024 * g + 32) O2) cs ≤ 8
+      pub control_room : m2 + differing (drop (1024 * g + 32) O2) cs ≤ rows_limit
       control_room = omega (arith, pc_count, file_part, few2, control_part, parts O g q long, room)
 
       module _ (O3 : List ℕ) (m3 v : ℕ) (origin3 : O3 ≡ O2) (few3 : m3 ≤ m2 + differing (drop (1024 * g + 32) O2) cs) (next : v ≡ q.next) where
         here : get_or O3 (1024 * g + 64) 0 ≡ get_or O (1024 * g + 64) 0
         here = ap (λ (X : List ℕ). get_or X (1024 * g + 64) 0) (origin3 ∙ origin2 ∙ origin1)
 
-        pub last_room : get_or O3 (1024 * g + 64) 0 ≢ v → m3 < 8
+        pub last_room : get_or O3 (1024 * g + 64) 0 ≢ v → m3 < rows_limit
         last_room ne =
             let one : ◌≡◌ {A = ℕ} (cond (get_or O (1024 * g + 64) 0 == q.next) 0 1) 1 = other_one O (1024 * g + 64) q.next (λ e. ne (here ∙ e ∙ sym next)) in
             omega (arith, one, pc_count, file_part, few2, control_part, few3, parts O g q long, room)

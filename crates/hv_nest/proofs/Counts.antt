@@ -10,6 +10,7 @@ use Rattle.hv_exec.proofs.Few.{few_act, few_idle, trap_few, differing_same}
 use Rattle.hv_nest.specs.declared.notes.Note.{Note}
 use Rattle.hv_nest.specs.Notes.{undone, is_exact}
 use Rattle.hv_nest.specs.Step.{idle}
+use Rattle.hv_nest.specs.Rows.{rows_limit}
 use Rattle.hv_nest.proofs.Undone.{few_notes}
 
 -- the notes of one instruction, with the registers that it changed
@@ -64,7 +65,7 @@ pub refused_count : (S T : List ℕ) (notes : List Note) (r q : Regs) → is_exa
 refused_count S T notes r q exact origin same f = same_count notes r q (no_notes S T notes exact origin same) f
 
 -- a child's registers are put back; its parent's stay
-pub child_room : (S U : List ℕ) (g n : ℕ) (b q : Regs) → U ≡ S → regs_at S g ≡ b → n + changed_regs b q ≤ 6 → n + changed_regs (regs_at U g) q ≤ 8
+pub child_room : (S U : List ℕ) (g n : ℕ) (b q : Regs) → U ≡ S → regs_at S g ≡ b → n + changed_regs b q ≤ 6 → n + changed_regs (regs_at U g) q ≤ rows_limit
 child_room S U g n b q e f h =
     let z : changed_regs (regs_at U g) q ≡ changed_regs b q = ap (λ (X : List ℕ). changed_regs (regs_at X g) q) e ∙ ap (λ (p : Regs). changed_regs p q) f in
     omega arith

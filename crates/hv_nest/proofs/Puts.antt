@@ -9,6 +9,7 @@ use Rattle.hv_block.specs.Block.{regs_at}
 use Rattle.hv_block.proofs.Edits.{sets_more, length-sets_lem}
 use Rattle.hv_exec.specs.Changes.{differing, changed_regs}
 use Rattle.hv_nest.proofs.Undone.{length-undone}
+use Rattle.hv_nest.specs.Rows.{rows_limit}
 
 pub differing_nil : (xs : List ℕ) → differing xs [] ≡ 0
 unfolding differing
@@ -49,7 +50,7 @@ step_more S ws at i h long =
     differing_more (drop at S) ws i inside h
     ∙ ap (λ (k : ℕ). differing (drop at S) (take i ws) + cond (k == get_or ws i 0) 0 1) (get_or-drop at S i 0)
 
-pub room_step : (S ws : List ℕ) (at i place m n : ℕ) → place ≡ at + i → i < length ws → at + length ws ≤ length S → m ≤ n + differing (drop at S) (take i ws) → n + differing (drop at S) ws ≤ 8 → get_or S place 0 ≢ get_or ws i 0 → m < 8
+pub room_step : (S ws : List ℕ) (at i place m n : ℕ) → place ≡ at + i → i < length ws → at + length ws ≤ length S → m ≤ n + differing (drop at S) (take i ws) → n + differing (drop at S) ws ≤ rows_limit → get_or S place 0 ≢ get_or ws i 0 → m < rows_limit
 room_step S ws at i place m n p h long few room ne =
     let other : get_or S (at + i) 0 ≢ get_or ws i 0 = λ e. ne (ap (λ (k : ℕ). get_or S k 0) p ∙ e) in
     let one : differing (drop at S) (take (i + 1) ws) ≡ differing (drop at S) (take i ws) + 1 =

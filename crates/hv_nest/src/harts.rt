@@ -115,23 +115,4 @@ impl Harts {
     {
         host_step_into(store, notes, &mut self.cpus[hart as usize], hart, outcome);
     }
-
-    /// The same with an outcome of its own.
-    #[inline(always)]
-    pub fn step(&mut self, store: &mut Store, hart: u32) -> Outcome
-        requires hart { hart < length self.old }
-        requires next { All (NextBelow (page_count store.old)) self.old }
-        ensures moves { record { kind = result.kind; state = record { storage = store.new; harts = self.new } }
-            ≡ moved_of (record { storage = store.old; harts = self.old }) hart }
-        ensures changed { result.changed ≡ differences store.old store.new }
-        ensures frame { IsFramedBy store.old (running_of (record { storage = store.old; harts = self.old }) hart) store.new }
-        ensures next { All (NextBelow (page_count store.old)) self.new }
-        ensures count { length self.new ≡ length self.old }
-        ensures len { length store.new ≡ length store.old }
-    {
-        let mut notes = Notes::new();
-        let mut outcome = Outcome::none();
-        self.step_into(store, &mut notes, hart, &mut outcome);
-        outcome
-    }
 }

@@ -8,6 +8,7 @@ ghost use Rattle.hv_block.specs.Block.{regs_at, put_regs, with_fault};
 ghost use Rattle.hv_exec.specs.Changes.{differing, changed_regs};
 ghost use Rattle.hv_nest.specs.Notes.{undone, is_exact};
 ghost use Rattle.hv_nest.specs.Noted.{control_of};
+ghost use Rattle.hv_nest.specs.Rows.{rows_limit};
 
 use crate::notes::Notes;
 use hv_block::block_word;
@@ -143,7 +144,7 @@ impl Space for NotingBare<'_> {
 #[inline(always)]
 pub fn put_cpu(store: &mut Store, notes: &mut Notes, page: u32, cpu: &Cpu, register: u32)
     requires page { page < page_count store.old }
-    requires room { length notes.old + changed_regs (regs_at (undone store.old notes.old) page) cpu.now ≤ 8 }
+    requires room { length notes.old + changed_regs (regs_at (undone store.old notes.old) page) cpu.now ≤ rows_limit }
     ensures put { store.new ≡ put_regs store.old page cpu.now }
     ensures origin { undone store.new notes.new ≡ undone store.old notes.old }
     ensures count { length notes.new ≤ length notes.old + changed_regs (regs_at (undone store.old notes.old) page) cpu.now }
@@ -154,20 +155,6 @@ pub fn put_cpu(store: &mut Store, notes: &mut Notes, page: u32, cpu: &Cpu, regis
     put_row(store, notes, at + 1, file(cpu), register);
     put_row(store, notes, at + 32, &control_words(cpu), 0);
     notes.put(store, at + 64, next_word(cpu));
-}
-
-/// The same where `before` are the registers in that block.
-#[inline(always)]
-pub fn put_changed(store: &mut Store, notes: &mut Notes, page: u32, before: &Cpu, cpu: &Cpu)
-    requires page { page < page_count store.old }
-    requires before { regs_at store.old page ≡ before.now }
-    requires room { length notes.old + changed_regs (regs_at (undone store.old notes.old) page) cpu.now ≤ 8 }
-    ensures put { store.new ≡ put_regs store.old page cpu.now }
-    ensures origin { undone store.new notes.new ≡ undone store.old notes.old }
-    ensures count { length notes.new ≤ length notes.old + changed_regs (regs_at (undone store.old notes.old) page) cpu.now }
-{
-    let _ = before;
-    put_cpu(store, notes, page, cpu, 0);
 }
 
 // x1 to x31.
@@ -219,7 +206,7 @@ fn next_word(cpu: &Cpu) -> u32
 fn put_row(store: &mut Store, notes: &mut Notes, at: u32, words: &[u32], likely: u32)
     requires short { length words.now ≤ 31 }
     requires inside { at + length words.now ≤ length store.old }
-    requires room { length notes.old + differing (drop at (undone store.old notes.old)) words.now ≤ 8 }
+    requires room { length notes.old + differing (drop at (undone store.old notes.old)) words.now ≤ rows_limit }
     ensures put { store.new ≡ sets store.old at words.now }
     ensures origin { undone store.new notes.new ≡ undone store.old notes.old }
     ensures count { length notes.new ≤ length notes.old + differing (drop at (undone store.old notes.old)) words.now }
@@ -246,7 +233,7 @@ fn put_row(store: &mut Store, notes: &mut Notes, at: u32, words: &[u32], likely:
 #[tactic(auto, using(crate::proofs::Puts::puts))]
 fn put_words(store: &mut Store, notes: &mut Notes, at: u32, words: &[u32])
     requires inside { at + length words.now ≤ length store.old }
-    requires room { length notes.old + differing (drop at (undone store.old notes.old)) words.now ≤ 8 }
+    requires room { length notes.old + differing (drop at (undone store.old notes.old)) words.now ≤ rows_limit }
     ensures put { store.new ≡ sets store.old at words.now }
     ensures origin { undone store.new notes.new ≡ undone store.old notes.old }
     ensures count { length notes.new ≤ length notes.old + differing (drop at (undone store.old notes.old)) words.now }

@@ -3,7 +3,7 @@ use Rattle.std.proofs.Common.{◌≡◌, ℕ, suc, ◌+◌, ◌-◌, ◌<◌, �
 use Rattle.std.specs.Prelude.{nat_lt}
 use Rattle.std.proofs.Math.Seq.{drop-cons}
 use Rattle.std.proofs.Math.Numerals.{add-one}
-use Rattle.std.proofs.lemmas.List.{append_assoc, length-append, length-drop, length-replicate, length-take-le, replicate_more, replicate-append-replicate, set_at, take_at, drop_at, take_more, take_more_set, take_all, drop_all, drop-set-lt}
+use Rattle.std.proofs.lemmas.List.{append_assoc, length-append, length-drop, length-take-le, take_at, drop_at, take_more, take_more_set, take_all, drop_all, drop-set-lt}
 use Rattle.std.proofs.lemmas.Bool.{lt-ltb, ltb-true}
 use Rattle.hv_nest.specs.declared.changed.ChangedRow.{ChangedRow}
 use Rattle.hv_nest.specs.Rows.{no_row, rows_limit, with_row}
@@ -31,24 +31,6 @@ length-with_row row (r ∷ rows) = by (nat_lt row.at r.at) (ap suc (length-with_
     by : (t : Bool) → length (row ∷ with_row r rows) ≡ suc (suc (length rows)) → length (r ∷ with_row row rows) ≡ suc (suc (length rows)) → length (cond t (row ∷ with_row r rows) (r ∷ with_row row rows)) ≡ suc (suc (length rows))
     by true lesser greater = lesser
     by false lesser greater = greater
-
--- rows that tell nothing stand in place of the first n, as behind them
-pub all_wiped : (rows wiped : List ChangedRow) (m n : ℕ) → n ≤ rows_limit → m ≡ n → wiped ≡ replicate m no_row → drop n rows ≡ replicate (rows_limit - n) no_row → wiped ++ drop n rows ≡ replicate rows_limit no_row
-all_wiped rows wiped m n few is e rest =
-    let all : n + (rows_limit - n) ≡ rows_limit = omega arith in
-    ap (λ (xs : List ChangedRow). xs ++ drop n rows) (e ∙ ap (λ (k : ℕ). replicate k no_row) is)
-    ∙ ap (λ (xs : List ChangedRow). replicate n no_row ++ xs) rest
-    ∙ replicate-append-replicate n (rows_limit - n) no_row
-    ∙ ap (λ (k : ℕ). replicate k no_row) all
-
--- one more row is wiped
-pub wipe_more : (old rows : List ChangedRow) (i : ℕ) → i < length old → rows ≡ replicate i no_row ++ drop i old → set rows i no_row ≡ replicate (i + 1) no_row ++ drop (i + 1) old
-wipe_more old rows i lt e =
-    ap (λ (xs : List ChangedRow). set xs i no_row) (e ∙ ap (λ (xs : List ChangedRow). replicate i no_row ++ xs) (drop-cons old i no_row lt))
-    ∙ set_at (replicate i no_row) (get_or old i no_row) (drop (suc i) old) no_row i (length-replicate i no_row)
-    ∙ sym (append_assoc (replicate i no_row) (no_row ∷ []) (drop (suc i) old))
-    ∙ ap (λ (xs : List ChangedRow). xs ++ drop (suc i) old) (replicate_more i no_row)
-    ∙ ap (λ (k : ℕ). replicate (i + 1) no_row ++ drop k old) (sym (add-one i))
 
 -- the rows behind those that are told, when one more is put behind them
 drop_row : (z : ChangedRow) (rows : List ChangedRow) (n k : ℕ) (row : ChangedRow) → n < length rows → drop n rows ≡ replicate (suc k) z → drop (n + 1) (set rows n row) ≡ replicate k z
@@ -111,4 +93,4 @@ all_passed rows i m h =
     ap (λ (xs : List ChangedRow). xs ++ with_row m (drop i rows)) (take_all i rows h)
     ∙ ap (λ (xs : List ChangedRow). rows ++ with_row m xs) (drop_all i rows h)
 
-pub ruleset inserting = (lesser_passed, greater_passed, all_passed, wipe_more)
+pub ruleset inserting = (lesser_passed, greater_passed, all_passed)

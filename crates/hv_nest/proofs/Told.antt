@@ -154,4 +154,12 @@ told_first T notes d rows some one apart none =
     ∙ ap (λ (ns : List Note). differences_to (undone T ns) T (length T)) (take_all 1 notes one)
     ∙ ap (differences_to (undone T notes) T) (sym (length-undone T notes))
 
+-- two notes alone, of which the first told these rows
+pub told_second : (T : List ℕ) (notes : List Note) (d e : Note) (before rows : List ChangedRow) → 1 < length notes → length notes ≤ 2 → AreApart notes → before ≡ [] → rows ≡ told_too T (get_or notes 0 d) before → told_too T (get_or notes 1 e) rows ≡ differences_to (undone T notes) T (length (undone T notes))
+told_second T notes d e before rows some two apart none is =
+    let first : 0 < length notes = omega (arith, some) in
+    told_more T notes 1 e rows some apart (is ∙ told_more T notes 0 d before first apart (none ∙ differences_unnoted T [] (length T) refl))
+    ∙ ap (λ (ns : List Note). differences_to (undone T ns) T (length T)) (take_all 2 notes two)
+    ∙ ap (differences_to (undone T notes) T) (sym (length-undone T notes))
+
 pub ruleset telling = (length-undone, told_more, few_told, differences_unnoted)

@@ -61,8 +61,10 @@ impl Changed {
     pub(crate) fn clear(&mut self)
         ensures { self.new ≡ [] }
     {
-        wipe(&mut self.rows[..self.len as usize]);
-        self.len = 0;
+        if self.len > 0 {
+            self.rows = [ChangedRow { at: 0, value: 0 }; ROWS];
+            self.len = 0;
+        }
     }
 
     /// Tells one more word, before those of greater places.
@@ -81,17 +83,6 @@ impl Changed {
         ensures { result.now ≡ self.now }
     {
         &self.rows[..self.len as usize]
-    }
-}
-
-// Puts rows that tell nothing in the place of others.
-#[inline(always)]
-#[tactic(auto, using(crate::proofs::Inserted::inserting))]
-fn wipe(rows: &mut [ChangedRow])
-    ensures { rows.new ≡ replicate (length rows.old) no_row }
-{
-    for i in 0..rows.len() {
-        rows[i] = ChangedRow { at: 0, value: 0 };
     }
 }
 

@@ -165,6 +165,10 @@ impl Notes {
         match &self.items[..self.len as usize] {
             [] => {}
             [note] => tell_note(note, store, changed),
+            [first, second] => {
+                tell_note(first, store, changed);
+                tell_note(second, store, changed);
+            }
             notes => tell_each(notes, store, changed),
         }
     }

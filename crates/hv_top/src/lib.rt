@@ -15,6 +15,8 @@ mod asm;
 mod check;
 mod debugging;
 mod dis;
+#[cfg(test)]
+mod engine_tests;
 mod generating;
 mod opening;
 mod playing;

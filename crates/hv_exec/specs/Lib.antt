@@ -6,3 +6,4 @@ pub mod Do
 pub mod Kept
 pub mod Memory
 pub mod System
+pub mod Touched

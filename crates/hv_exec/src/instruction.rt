@@ -1,16 +1,18 @@
 //! One instruction of a machine over its storage.
 
-ghost use Rattle.std.specs.Prelude.{◌≡◌, ◌≢◌, ◌<◌, OnErr, IfErr, length};
+ghost use Rattle.std.specs.Prelude.{◌≡◌, ◌≢◌, ◌<◌, OnErr, IfErr, IfOk, length};
 ghost use Rattle.hv_isa.specs.Table.{NamesRegs};
 ghost use Rattle.hv_store.specs.Space.{Keeps};
 ghost use Rattle.hv_sv32.specs.Walk.{walk_of};
 ghost use Rattle.hv_exec.specs.Do.{do_of};
 ghost use Rattle.hv_exec.specs.Act.{act_of, acted, carried_out, load_at, store_at, enter_at};
 ghost use Rattle.hv_exec.specs.Kept.{ChangedNothing};
+ghost use Rattle.hv_exec.specs.Touched.{Touches};
 
 use crate::answer::{Task, Width, advance, give};
 use crate::memory::{extend, lane};
 use crate::rows::perform;
+use crate::touched::Touched;
 use hv_cpu::Cpu;
 use hv_csr::take_trap;
 use hv_isa::{Instr, decode};
@@ -49,6 +51,27 @@ pub fn act<S: Space>(cpu: &mut Cpu, hart: u32, space: &mut S) -> Result<(), Refu
             Ok(())
         }
     }
+}
+
+/// The same, with what it may have changed of the registers.
+#[inline(always)]
+pub fn act_telling<S: Space>(
+    cpu: &mut Cpu,
+    hart: u32,
+    space: &mut S,
+) -> Result<Touched, Refusal>
+    requires next { cpu.old.next ≡ 0 }
+    requires room { 0 < S.room space.old }
+    ensures acts { acted result (S.storage space.new) cpu.new
+        ≡ act_of (S.storage space.old) (S.slots space.old) hart cpu.old }
+    ensures touches { IfOk result (λ touched. Touches touched cpu.old cpu.new) }
+    ensures next { cpu.new.next ≢ 0 → cpu.new.next < length (S.slots space.old) }
+    ensures level { IfErr result (λ e. e.level < S.depth space.old) }
+    ensures keeps { Keeps S.Space space.old space.new }
+    ensures err { OnErr result (ChangedNothing S.Space space.old space.new cpu.old cpu.new) }
+{
+    act(cpu, hart, space)?;
+    Ok(Touched::Any)
 }
 
 // Executes an instruction whose word was fetched.

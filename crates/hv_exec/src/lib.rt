@@ -8,5 +8,7 @@ pub mod laws;
 mod memory;
 mod rows;
 mod system;
+mod touched;
 
-pub use instruction::act;
+pub use instruction::{act, act_telling};
+pub use touched::Touched;

@@ -10,7 +10,7 @@ use Rattle.hv_asm.specs.Forms.{◌>>=◌, ranged, word_with}
 use Rattle.hv_asm.specs.Limits.{image_limit}
 use Rattle.hv_asm.specs.Operands.{Reading, Deed, Refused, Nothing, Work, read_of, size_of, size_with, space_of}
 use Rattle.hv_asm.specs.Rows.{address, number, register}
-use Rattle.hv_asm.specs.Words.{alone, high_part, is_defined, is_value, la_words, li_words, low_part, one_word, pair_words, space_count, value, value_at, value_words, values_of, words_with, zeros_of}
+use Rattle.hv_asm.specs.Words.{single, high_part, is_defined, is_value, la_words, li_words, low_part, one_word, pair_words, space_count, value, value_at, value_words, values_of, words_with, zeros_of}
 use Rattle.hv_asm.specs.declared.AsmKind.{AsmKind}
 use Rattle.hv_asm.specs.declared.AsmKind.TheVariants as fault
 use Rattle.hv_asm.specs.declared.amounts.Amount.TheVariants.{Plus, Minus}
@@ -123,7 +123,7 @@ zeros_length operands ws is =
     let l : length ws ≡ s.0 = ap length (sym e) ∙ length-replicate s.0 0 in
     ap (λ n. 4 * n) l ∙ space_is operands s.0 s.1
 
-one_length : (word : Result ℕ AsmKind) (ws : List ℕ) → alone word ≡ Ok ws → 4 * length ws ≡ 4
+one_length : (word : Result ℕ AsmKind) (ws : List ℕ) → single word ≡ Ok ws → 4 * length ws ≡ 4
 one_length word ws is =
     let s = then_ok word _ ws is in
     let e : s.0 ∷ [] ≡ ws = ok_is _ ws s.2 in

@@ -6,7 +6,7 @@ use Rattle.hv_lex.specs.declared.Kind.{Kind}
 use Rattle.hv_lex.specs.declared.Kind.TheVariants.{Name, Number, Comma, Colon, Open, Close}
 use Rattle.hv_asm.specs.Amounts.{amount_of, distance, within, within_signed, is_even, word_of}
 use Rattle.hv_asm.specs.Forms.{ranged}
-use Rattle.hv_asm.specs.Meaning.{Alone, IsAddress, IsBased, IsControl, IsNumber, IsRegister, IsTarget}
+use Rattle.hv_asm.specs.Meaning.{IsSingle, IsAddress, IsBased, IsControl, IsNumber, IsRegister, IsTarget}
 use Rattle.hv_asm.specs.Names.{register_of}
 use Rattle.hv_asm.specs.Operands.{based, operand_of, single, text_of}
 use Rattle.hv_asm.specs.Rows.{address, csr, number, or_fault, register, register_at, target}
@@ -28,8 +28,8 @@ AreBased a t _ = ⊥
 
 -- the tokens of an operand
 abbrev pub AreTokens : Operand → List Token → Type 0
-AreTokens (operand.Name t) tokens = Alone (λ s. (s.kind ≡ Name) × (s ≡ t)) tokens
-AreTokens (operand.Number a) tokens = Alone (λ s. (z : ℤ) × IsNumber s z × (a ≡ amount_of z)) tokens
+AreTokens (operand.Name t) tokens = IsSingle (λ s. (s.kind ≡ Name) × (s ≡ t)) tokens
+AreTokens (operand.Number a) tokens = IsSingle (λ s. (z : ℤ) × IsNumber s z × (a ≡ amount_of z)) tokens
 AreTokens (operand.Based a t) tokens = AreBased a t tokens
 
 single_is : (k : Kind) (t : Token) (o : Operand) → t.kind ≡ k → single k t ≡ Some o → AreTokens o (t ∷ [])
@@ -55,7 +55,7 @@ operand_is (a ∷ b ∷ []) o is = cc
 operand_is (a ∷ b ∷ c ∷ []) o is = cc
 operand_is (a ∷ b ∷ c ∷ d ∷ e ∷ es) o is = cc
 
-alone_map : (P Q : Token → Type 0) → ((t : Token) → P t → Q t) → (tokens : List Token) → Alone P tokens → Alone Q tokens
+alone_map : (P Q : Token → Type 0) → ((t : Token) → P t → Q t) → (tokens : List Token) → IsSingle P tokens → IsSingle Q tokens
 alone_map P Q f [] is = is
 alone_map P Q f (t ∷ []) is = f t is
 alone_map P Q f (t ∷ s ∷ ss) is = is
@@ -69,7 +69,7 @@ module _ (line : List ℕ) where
   unfolding register_at
   register_is t n is = let e = found_is fault.Operand (register_of (text_of line t)) n is in (e, register_below (text_of line t) n e)
 
-  pub register_field : (o : Operand) (n : ℕ) (tokens : List Token) → AreTokens o tokens → register line o ≡ Ok n → Alone (λ t. IsRegister line t n) tokens
+  pub register_field : (o : Operand) (n : ℕ) (tokens : List Token) → AreTokens o tokens → register line o ≡ Ok n → IsSingle (λ t. IsRegister line t n) tokens
   unfolding register
   register_field (operand.Name t) n tokens are is =
       alone_map (λ s. (s.kind ≡ Name) × (s ≡ t)) (λ s. IsRegister line s n)
@@ -84,7 +84,7 @@ module _ (line : List ℕ) where
   register_small (operand.Based a t) n is = cc
 
   -- a number, from what holds of each number with its amount
-  pub number_field : (o : Operand) (a : Amount) (P : ℤ → Type 0) (tokens : List Token) → AreTokens o tokens → number o ≡ Ok a → ((z : ℤ) → a ≡ amount_of z → P z) → Alone (λ t. (z : ℤ) × IsNumber t z × P z) tokens
+  pub number_field : (o : Operand) (a : Amount) (P : ℤ → Type 0) (tokens : List Token) → AreTokens o tokens → number o ≡ Ok a → ((z : ℤ) → a ≡ amount_of z → P z) → IsSingle (λ t. (z : ℤ) × IsNumber t z × P z) tokens
   unfolding number
   number_field (operand.Number b) a P tokens are is holds =
       let e : b ≡ a = cc in
@@ -93,7 +93,7 @@ module _ (line : List ℕ) where
   number_field (operand.Name t) a P tokens are is holds = cc
   number_field (operand.Based b t) a P tokens are is holds = cc
 
-  pub csr_field : (o : Operand) (a : Amount) (imm : ℕ) (tokens : List Token) → AreTokens o tokens → csr line o ≡ Ok a → ranged (within 4096 a) (word_of a) ≡ Ok imm → Alone (λ t. IsControl line t imm) tokens
+  pub csr_field : (o : Operand) (a : Amount) (imm : ℕ) (tokens : List Token) → AreTokens o tokens → csr line o ≡ Ok a → ranged (within 4096 a) (word_of a) ≡ Ok imm → IsSingle (λ t. IsControl line t imm) tokens
   unfolding csr
   csr_field (operand.Name t) a imm tokens are is inside =
       let s = then_ok (or_fault fault.Operand (csr_number_of (text_of line t))) _ a is in
@@ -140,11 +140,11 @@ module _ (find : List ℕ → Option Place) (line : List ℕ) where
       let e : s.0.at ≡ to = cc in
       ap (option_map (λ place. place.at)) (found_is fault.Label (find (text_of line t)) s.0 s.1) ∙ ap Some e
 
-  label_field : (P : Token → Type 0) (t : Token) (tokens : List Token) → AreTokens (operand.Name t) tokens → (t.kind ≡ Name → P t) → Alone P tokens
+  label_field : (P : Token → Type 0) (t : Token) (tokens : List Token) → AreTokens (operand.Name t) tokens → (t.kind ≡ Name → P t) → IsSingle P tokens
   label_field P t tokens are holds =
       alone_map (λ s. (s.kind ≡ Name) × (s ≡ t)) P (λ s h. subst P (sym h.1) (holds (ap (λ (t : Token). t.kind) (sym h.1) ∙ h.0))) tokens are
 
-  pub target_field : (at : ℕ) (o : Operand) (a : Amount) (bound imm : ℕ) (tokens : List Token) → AreTokens o tokens → target find at line o ≡ Ok a → bound ≤ 2 ^ 31 → ranged (within_signed bound a && is_even a) (word_of a) ≡ Ok imm → Alone (λ t. IsTarget (addresses find) at line t imm) tokens
+  pub target_field : (at : ℕ) (o : Operand) (a : Amount) (bound imm : ℕ) (tokens : List Token) → AreTokens o tokens → target find at line o ≡ Ok a → bound ≤ 2 ^ 31 → ranged (within_signed bound a && is_even a) (word_of a) ≡ Ok imm → IsSingle (λ t. IsTarget (addresses find) at line t imm) tokens
   unfolding target
   target_field at (operand.Name t) a bound imm tokens are is low inside =
       let s = then_ok (address find line t) _ a is in
@@ -162,6 +162,6 @@ module _ (find : List ℕ → Option Place) (line : List ℕ) where
       (λ s h. inr (h.1 ∙ ap Number (signed_number h.0 bound imm low (ap (within_signed bound) (sym h.2 ∙ e) ∙ c.0) (ap word_of (sym h.2 ∙ e) ∙ r.1)))) tokens are
   target_field at (operand.Based b t) a bound imm tokens are is low inside = cc
 
-  pub address_field : (t : Token) (to : ℕ) (tokens : List Token) → AreTokens (operand.Name t) tokens → address find line t ≡ Ok to → Alone (λ t. IsAddress (addresses find) line t (to % 2 ^ 32)) tokens
+  pub address_field : (t : Token) (to : ℕ) (tokens : List Token) → AreTokens (operand.Name t) tokens → address find line t ≡ Ok to → IsSingle (λ t. IsAddress (addresses find) line t (to % 2 ^ 32)) tokens
   address_field t to tokens are is =
       label_field (λ t. IsAddress (addresses find) line t (to % 2 ^ 32)) t tokens are (λ kind. (to, (kind, address_is t to is), refl))

@@ -16,7 +16,7 @@ use Rattle.hv_asm.specs.Law.{AssemblerLaw, HasWords, IsAssembled, AssembledLine,
 use Rattle.hv_asm.specs.Meaning.{Contributes}
 use Rattle.hv_asm.specs.Names.{operation_name, operation_of, operations}
 use Rattle.hv_asm.specs.Operands.{Deed, Reading, Work, begins_label, deed_of, groups_of, named, operand_of, operands_from, operands_of, read_of, read_tokens, reading_of, size_of, text_of, worked}
-use Rattle.hv_asm.specs.Words.{alone, one_word, words_with}
+use Rattle.hv_asm.specs.Words.{single, one_word, words_with}
 use Rattle.hv_asm.specs.declared.AsmKind.{AsmKind}
 use Rattle.hv_asm.specs.declared.AsmKind.TheVariants as fault
 use Rattle.hv_asm.specs.declared.labels.Place.{Place}
@@ -75,7 +75,7 @@ module _ (find_label : List ℕ → Option Place) (at : ℕ) (line : List ℕ) w
   abbrev labels : List ℕ → Option ℕ
   labels = addresses find_label
 
-  one_means : (P : List ℕ → Type 0) (word : Result ℕ AsmKind) (ws : List ℕ) → ((w : ℕ) → word ≡ Ok w → P (w ∷ [])) → alone word ≡ Ok ws → P ws
+  one_means : (P : List ℕ → Type 0) (word : Result ℕ AsmKind) (ws : List ℕ) → ((w : ℕ) → word ≡ Ok w → P (w ∷ [])) → single word ≡ Ok ws → P ws
   one_means P word ws means e =
       let s = then_ok word _ ws e in
       subst P (ok_is _ ws s.2) (means s.0 s.1)

@@ -10,7 +10,7 @@ use Rattle.hv_lex.specs.declared.Kind.TheVariants.{Number}
 use Rattle.hv_asm.specs.Amounts.{amount_of, within, within_signed, word_of}
 use Rattle.hv_asm.specs.Forms.{UsesRegisters, form_of, immediate_of, ranged, word_with}
 use Rattle.hv_word.specs.Words.{signed_of}
-use Rattle.hv_asm.specs.Meaning.{Alone, IsInstruction, IsNumber, IsOperand}
+use Rattle.hv_asm.specs.Meaning.{IsSingle, IsInstruction, IsNumber, IsOperand}
 use Rattle.hv_asm.specs.Roles.{Role, Rd, Rs1, Rs2, Immediate, Upper, Based, Target, Control, Small, plain, rest_of, roles_of}
 use Rattle.hv_asm.specs.Rows.{bare_word, branch_word, csr, csr_number_word, csr_register_word, form_word, immediate_word, jump_word, load_word, number, plain_jump_word, register, register_at, registers_word, row_word, small, source_word, sources_word, store_word, target, upper_word, zero_word}
 use Rattle.hv_asm.specs.Words.{bare_short, csr_read_word, csr_write_word, move_word}
@@ -78,37 +78,37 @@ module _ (find : List ℕ → Option Place) (at : ℕ) (line : List ℕ) (groups
       zip_cons AreTokens (Has i) a x (b ∷ c ∷ []) (y ∷ v ∷ []) f
       (zip_cons AreTokens (Has i) b y (c ∷ []) (v ∷ []) g (zip_cons AreTokens (Has i) c v [] [] h (zip_nil AreTokens (Has i)))) groups z
 
-  number_alone : (o : Operand) (a : Amount) (v : ℤ) (g : List Token) → AreTokens o g → number o ≡ Ok a → ((z : ℤ) → a ≡ amount_of z → z ≡ v) → Alone (λ t. IsNumber t v) g
+  number_alone : (o : Operand) (a : Amount) (v : ℤ) (g : List Token) → AreTokens o g → number o ≡ Ok a → ((z : ℤ) → a ≡ amount_of z → z ≡ v) → IsSingle (λ t. IsNumber t v) g
   number_alone o a v g are is same = turned g (number_field line o a (λ z. z ≡ v) g are is same)
     where
-      turned : (g : List Token) → Alone (λ t. (z : ℤ) × IsNumber t z × (z ≡ v)) g → Alone (λ t. IsNumber t v) g
+      turned : (g : List Token) → IsSingle (λ t. (z : ℤ) × IsNumber t z × (z ≡ v)) g → IsSingle (λ t. IsNumber t v) g
       turned [] h = h
       turned (t ∷ []) h = h.1 ∙ ap Number h.2
       turned (t ∷ s ∷ ss) h = h
 
-  signed_field : (o : Operand) (a : Amount) (imm : ℕ) (g : List Token) → number o ≡ Ok a → ranged (within_signed 2048 a) (word_of a) ≡ Ok imm → AreTokens o g → Alone (λ t. IsNumber t (signed_of imm)) g
+  signed_field : (o : Operand) (a : Amount) (imm : ℕ) (g : List Token) → number o ≡ Ok a → ranged (within_signed 2048 a) (word_of a) ≡ Ok imm → AreTokens o g → IsSingle (λ t. IsNumber t (signed_of imm)) g
   signed_field o a imm g is inside are =
       let r = ranged_ok _ _ _ inside in
       number_alone o a (signed_of imm) g are is (λ z e. signed_number z 2048 imm (lit≤ tt) (ap (within_signed 2048) (sym e) ∙ r.0) (ap word_of (sym e) ∙ r.1))
 
-  plain_field : (o : Operand) (a : Amount) (v : ℕ) (g : List Token) → number o ≡ Ok a → ranged (within 32 a) (word_of a) ≡ Ok v → AreTokens o g → Alone (λ t. IsNumber t (pos v)) g
+  plain_field : (o : Operand) (a : Amount) (v : ℕ) (g : List Token) → number o ≡ Ok a → ranged (within 32 a) (word_of a) ≡ Ok v → AreTokens o g → IsSingle (λ t. IsNumber t (pos v)) g
   plain_field o a v g is inside are =
       let r = ranged_ok _ _ _ inside in
       number_alone o a (pos v) g are is (λ z e. (plain_number z 32 v (lit≤ tt) (ap (within 32) (sym e) ∙ r.0) (ap word_of (sym e) ∙ r.1)).0)
 
-  shift_field : (o : Operand) (a : Amount) (v : ℕ) (g : List Token) → number o ≡ Ok a → ranged (within 32 a) (word_of a) ≡ Ok v → AreTokens o g → Alone (λ t. IsNumber t (signed_of v)) g
+  shift_field : (o : Operand) (a : Amount) (v : ℕ) (g : List Token) → number o ≡ Ok a → ranged (within 32 a) (word_of a) ≡ Ok v → AreTokens o g → IsSingle (λ t. IsNumber t (signed_of v)) g
   shift_field o a v g is inside are =
       let r = ranged_ok _ _ _ inside in
       number_alone o a (signed_of v) g are is
       (λ z e. let n = plain_number z 32 v (lit≤ tt) (ap (within 32) (sym e) ∙ r.0) (ap word_of (sym e) ∙ r.1) in signed_small z v (omega (arith, n.1)) n.0)
 
-  upper_field : (o : Operand) (a : Amount) (imm : ℕ) (g : List Token) → number o ≡ Ok a → ranged (within 1048576 a) (word_of a * 4096) ≡ Ok imm → AreTokens o g → Alone (λ t. (n : ℕ) × IsNumber t (pos n) × (n < 2 ^ 20) × (imm ≡ n * 2 ^ 12)) g
+  upper_field : (o : Operand) (a : Amount) (imm : ℕ) (g : List Token) → number o ≡ Ok a → ranged (within 1048576 a) (word_of a * 4096) ≡ Ok imm → AreTokens o g → IsSingle (λ t. (n : ℕ) × IsNumber t (pos n) × (n < 2 ^ 20) × (imm ≡ n * 2 ^ 12)) g
   upper_field o a imm g is inside are =
       let r = ranged_ok _ _ _ inside in
       turned g (number_field line o a (λ z. (z ≡ pos (word_of a)) × (word_of a < 1048576)) g are is
       (λ z e. plain_number z 1048576 (word_of a) (lit≤ tt) (ap (within 1048576) (sym e) ∙ r.0) (ap word_of (sym e)))) r.1
     where
-      turned : (g : List Token) → Alone (λ t. (z : ℤ) × IsNumber t z × ((z ≡ pos (word_of a)) × (word_of a < 1048576))) g → word_of a * 4096 ≡ imm → Alone (λ t. (n : ℕ) × IsNumber t (pos n) × (n < 2 ^ 20) × (imm ≡ n * 2 ^ 12)) g
+      turned : (g : List Token) → IsSingle (λ t. (z : ℤ) × IsNumber t z × ((z ≡ pos (word_of a)) × (word_of a < 1048576))) g → word_of a * 4096 ≡ imm → IsSingle (λ t. (n : ℕ) × IsNumber t (pos n) × (n < 2 ^ 20) × (imm ≡ n * 2 ^ 12)) g
       turned [] h e = h
       turned (t ∷ []) h e = (word_of a, h.1 ∙ ap Number h.2.0, h.2.1, sym e)
       turned (t ∷ s ∷ ss) h e = h

@@ -9,7 +9,7 @@ use Rattle.hv_asm.specs.Amounts.{amount_of, word_of}
 use Rattle.hv_asm.specs.Forms.{immediate_of, word_with}
 use Rattle.hv_word.specs.Words.{signed_of}
 use Rattle.hv_asm.specs.Limits.{space_limit}
-use Rattle.hv_asm.specs.Meaning.{Alone, Contributes, IsAddress, IsLoad, IsNumber, IsRegister, IsWordValue, One, Two}
+use Rattle.hv_asm.specs.Meaning.{IsSingle, Contributes, IsAddress, IsLoad, IsNumber, IsRegister, IsWordValue, One, Two}
 use Rattle.hv_asm.specs.Rows.{address, number, register}
 use Rattle.hv_asm.specs.Words.{high_part, is_defined, is_value, la_words, li_words, low_part, pair_words, space_count, value, value_at, value_words, values_of, zeros_of}
 use Rattle.hv_asm.specs.declared.AsmKind.{AsmKind}
@@ -79,23 +79,23 @@ pair_loads rd v ws below small is =
       sum = halves rd v a.0 b.0 s.0 t.0 ws small a.1 b.1;
     }
 
-two_is : (a b : Operand) (P Q : Token → Type 0) → ((g : List Token) → AreTokens a g → Alone P g) → ((g : List Token) → AreTokens b g → Alone Q g) → (groups : List (List Token)) → AllZip AreTokens (a ∷ b ∷ []) groups → Two P Q groups
+two_is : (a b : Operand) (P Q : Token → Type 0) → ((g : List Token) → AreTokens a g → IsSingle P g) → ((g : List Token) → AreTokens b g → IsSingle Q g) → (groups : List (List Token)) → AllZip AreTokens (a ∷ b ∷ []) groups → Two P Q groups
 two_is a b P Q f g [] z = z
 two_is a b P Q f g (x ∷ []) z = z.1
 two_is a b P Q f g (x ∷ y ∷ []) z = (f x z.0, g y z.1.0)
 two_is a b P Q f g (x ∷ y ∷ v ∷ vs) z = z.1.1
 
-one_is : (a : Operand) (P : Token → Type 0) → ((g : List Token) → AreTokens a g → Alone P g) → (groups : List (List Token)) → AllZip AreTokens (a ∷ []) groups → One P groups
+one_is : (a : Operand) (P : Token → Type 0) → ((g : List Token) → AreTokens a g → IsSingle P g) → (groups : List (List Token)) → AllZip AreTokens (a ∷ []) groups → One P groups
 one_is a P f [] z = z
 one_is a P f (x ∷ []) z = f x z.0
 one_is a P f (x ∷ y ∷ ys) z = z.1
 
-alone_to : (P Q : Token → Type 0) → ((t : Token) → P t → Q t) → (tokens : List Token) → Alone P tokens → Alone Q tokens
+alone_to : (P Q : Token → Type 0) → ((t : Token) → P t → Q t) → (tokens : List Token) → IsSingle P tokens → IsSingle Q tokens
 alone_to P Q f [] is = is
 alone_to P Q f (t ∷ []) is = f t is
 alone_to P Q f (t ∷ s ∷ ss) is = is
 
-word_field : (line : List ℕ) (o : Operand) (a : Amount) (v : ℕ) (g : List Token) → number o ≡ Ok a → value a ≡ Ok v → AreTokens o g → Alone (λ t. IsWordValue t v) g
+word_field : (line : List ℕ) (o : Operand) (a : Amount) (v : ℕ) (g : List Token) → number o ≡ Ok a → value a ≡ Ok v → AreTokens o g → IsSingle (λ t. IsWordValue t v) g
 word_field line o a v g is fits are =
     alone_to (λ t. (z : ℤ) × IsNumber t z × IsWordZ z v) (λ t. IsWordValue t v)
     (λ t h. (h.2.0, elim h.2.1 as (λ s. IsNumber t (pos v) ⊎ IsNumber t (signed_of v)) [ inl e ↦ inl (subst (λ (z : ℤ). IsNumber t z) e h.1) | inr e ↦ inr (subst (λ (z : ℤ). IsNumber t z) e h.1) ]))
@@ -127,7 +127,7 @@ module _ (find : List ℕ → Option Place) (at : ℕ) (line : List ℕ) where
       )
   la_means _ groups ws z e = cc
 
-  value_field : (o : Operand) (v : ℕ) (g : List Token) → value_at find line o ≡ Ok v → AreTokens o g → Alone (λ t. IsAddress (addresses find) line t v ⊎ IsWordValue t v) g
+  value_field : (o : Operand) (v : ℕ) (g : List Token) → value_at find line o ≡ Ok v → AreTokens o g → IsSingle (λ t. IsAddress (addresses find) line t v ⊎ IsWordValue t v) g
   unfolding value_at number
   value_field (operand.Name t) v g e are =
       let s = then_ok (address find line t) _ v e in
@@ -138,16 +138,16 @@ module _ (find : List ℕ → Option Place) (at : ℕ) (line : List ℕ) where
       alone_to (λ t. IsWordValue t v) (λ t. IsAddress (addresses find) line t v ⊎ IsWordValue t v) (λ t h. inr h) g (word_field line (operand.Number a) a v g refl e are)
   value_field (operand.Based a t) v g e are = cc
 
-  values_mean : (os : List Operand) (groups : List (List Token)) (ws : List ℕ) → AllZip AreTokens os groups → values_of find line os ≡ Ok ws → AllZip (λ g v. Alone (λ t. IsAddress (addresses find) line t v ⊎ IsWordValue t v) g) groups ws
+  values_mean : (os : List Operand) (groups : List (List Token)) (ws : List ℕ) → AllZip AreTokens os groups → values_of find line os ≡ Ok ws → AllZip (λ g v. IsSingle (λ t. IsAddress (addresses find) line t v ⊎ IsWordValue t v) g) groups ws
   unfolding values_of
-  values_mean [] [] ws z e = let same : [] ≡ ws = ok_is [] ws e in subst (λ (ws : List ℕ). AllZip (λ g v. Alone (λ t. IsAddress (addresses find) line t v ⊎ IsWordValue t v) g) [] ws) same tt
+  values_mean [] [] ws z e = let same : [] ≡ ws = ok_is [] ws e in subst (λ (ws : List ℕ). AllZip (λ g v. IsSingle (λ t. IsAddress (addresses find) line t v ⊎ IsWordValue t v) g) [] ws) same tt
   values_mean [] (g ∷ gs) ws z e = absurd z
   values_mean (o ∷ os) [] ws z e = absurd z
   values_mean (o ∷ os) (g ∷ gs) ws z e =
       let s = then_ok (value_at find line o) _ ws e in
       let t = then_ok (values_of find line os) _ ws s.2 in
       let same : s.0 ∷ t.0 ≡ ws = ok_is _ ws t.2 in
-      subst (λ (ws : List ℕ). AllZip (λ g v. Alone (λ t. IsAddress (addresses find) line t v ⊎ IsWordValue t v) g) (g ∷ gs) ws) same
+      subst (λ (ws : List ℕ). AllZip (λ g v. IsSingle (λ t. IsAddress (addresses find) line t v ⊎ IsWordValue t v) g) (g ∷ gs) ws) same
       (value_field o s.0 g s.1 z.0, values_mean os gs t.0 z.1 t.1)
 
   values_some : (os : List Operand) (ws : List ℕ) → nat_eq (length os) 0 ≡ false → values_of find line os ≡ Ok ws → 0 < length ws
@@ -174,7 +174,7 @@ module _ (find : List ℕ → Option Place) (at : ℕ) (line : List ℕ) where
       let named = kept defined (values_of find line os) fault.Label ws values.1 in
       (values_some os ws (tested (nat_eq (length os) 0) outer fault.Operand ws e) named.1, values_mean os groups ws z named.1)
 
-  zeros_mean : (o : Operand) (a : Amount) (n : ℕ) (g : List Token) → number o ≡ Ok a → a ≡ Plus (4 * n) → AreTokens o g → Alone (λ t. IsNumber t (pos (4 * n))) g
+  zeros_mean : (o : Operand) (a : Amount) (n : ℕ) (g : List Token) → number o ≡ Ok a → a ≡ Plus (4 * n) → AreTokens o g → IsSingle (λ t. IsNumber t (pos (4 * n))) g
   zeros_mean o a n g is amount are =
       alone_to (λ t. (z : ℤ) × IsNumber t z × (z ≡ pos (4 * n))) (λ t. IsNumber t (pos (4 * n))) (λ t h. subst (λ (z : ℤ). IsNumber t z) h.2 h.1)
       g (number_field line o a (λ z. z ≡ pos (4 * n)) g are is (λ z e. number_is z (sym e ∙ amount)))

@@ -17,7 +17,7 @@ use Rattle.hv_asm.specs.Forms.{◌>>=◌, form_of, immediate_of, word_with}
 use Rattle.hv_asm.specs.Names.{register_of, operation_of}
 use Rattle.hv_asm.specs.Operands.{Reading, Work, Nothing, read_of, read_tokens, reading_of, deed_of, operands_of, operands_from, groups_of, operand_of, size_with, size_of, text_of}
 use Rattle.hv_asm.specs.Rows.{register_at, register, csr, or_fault, form_word}
-use Rattle.hv_asm.specs.Words.{words_with, one_word, alone}
+use Rattle.hv_asm.specs.Words.{words_with, one_word, single}
 use Rattle.hv_asm.specs.declared.AsmKind.{AsmKind}
 use Rattle.hv_asm.specs.declared.AsmKind.TheVariants as fault
 use Rattle.hv_asm.specs.declared.amounts.Amount.{Amount}
@@ -64,7 +64,7 @@ line_word (c ∷ cs) operation operands base w whole reads size room words =
 pub row_words : (find : List ℕ → Option Place) (at : ℕ) (line : List ℕ) (op : Op) (operands : List Operand) (f : Form) (w : ℕ) → form_of (row_of op) ≡ f → form_word find at line op f operands ≡ Ok w → words_with find at line (Row op) operands ≡ Ok (w ∷ [])
 unfolding words_with one_word
 row_words find at line op operands f w is word =
-    ap (λ f. alone (form_word find at line op f operands)) is ∙ ap alone word
+    ap (λ f. single (form_word find at line op f operands)) is ∙ ap single word
 
 -- an instruction from its fields
 abbrev pub instr : Op → (rd rs1 rs2 imm : ℕ) → Instr

@@ -49,9 +49,9 @@ abbrev pub IsAddress : (labels : Addresses) → List ℕ → Token → ℕ → T
 IsAddress labels line t v = (to : ℕ) × IsLabel labels line t to × (v ≡ to % 2 ^ 32)
 
 -- an operand of one token
-abbrev pub Alone : (Token → Type 0) → List Token → Type 0
-Alone P (t ∷ []) = P t
-Alone P _ = ⊥
+abbrev pub IsSingle : (Token → Type 0) → List Token → Type 0
+IsSingle P (t ∷ []) = P t
+IsSingle P _ = ⊥
 
 -- a signed number, and a register in parentheses behind it
 abbrev pub IsBased : List ℕ → List Token → (imm rs1 : ℕ) → Type 0
@@ -61,16 +61,16 @@ IsBased line _ imm rs1 = ⊥
 
 -- the instruction has in the operand's field what the operand says
 abbrev pub IsOperand : (labels : Addresses) → (at : ℕ) → List ℕ → Instr → Role → List Token → Type 0
-IsOperand labels at line i Rd operand = Alone (λ t. IsRegister line t i.rd) operand
-IsOperand labels at line i Rs1 operand = Alone (λ t. IsRegister line t i.rs1) operand
-IsOperand labels at line i Rs2 operand = Alone (λ t. IsRegister line t i.rs2) operand
-IsOperand labels at line i Immediate operand = Alone (λ t. IsNumber t (signed_of i.imm)) operand
+IsOperand labels at line i Rd operand = IsSingle (λ t. IsRegister line t i.rd) operand
+IsOperand labels at line i Rs1 operand = IsSingle (λ t. IsRegister line t i.rs1) operand
+IsOperand labels at line i Rs2 operand = IsSingle (λ t. IsRegister line t i.rs2) operand
+IsOperand labels at line i Immediate operand = IsSingle (λ t. IsNumber t (signed_of i.imm)) operand
 IsOperand labels at line i Upper operand =
-    Alone (λ t. (n : ℕ) × IsNumber t (pos n) × (n < 2 ^ 20) × (i.imm ≡ n * 2 ^ 12)) operand
+    IsSingle (λ t. (n : ℕ) × IsNumber t (pos n) × (n < 2 ^ 20) × (i.imm ≡ n * 2 ^ 12)) operand
 IsOperand labels at line i Based operand = IsBased line operand i.imm i.rs1
-IsOperand labels at line i Target operand = Alone (λ t. IsTarget labels at line t i.imm) operand
-IsOperand labels at line i Control operand = Alone (λ t. IsControl line t i.imm) operand
-IsOperand labels at line i Small operand = Alone (λ t. IsNumber t (pos i.rs1)) operand
+IsOperand labels at line i Target operand = IsSingle (λ t. IsTarget labels at line t i.imm) operand
+IsOperand labels at line i Control operand = IsSingle (λ t. IsControl line t i.imm) operand
+IsOperand labels at line i Small operand = IsSingle (λ t. IsNumber t (pos i.rs1)) operand
 
 -- One word, which decodes to the instruction whose fields the operands say; the others are as in `rest`.
 pub record IsInstruction
@@ -96,12 +96,12 @@ pub record IsLoad (rd v : ℕ) (words : List ℕ) : Type 0 where
 
 -- one operand, of one token
 abbrev pub One : (Token → Type 0) → List (List Token) → Type 0
-One P (a ∷ []) = Alone P a
+One P (a ∷ []) = IsSingle P a
 One P _ = ⊥
 
 -- two operands of one token each
 abbrev pub Two : (P Q : Token → Type 0) → List (List Token) → Type 0
-Two P Q (a ∷ b ∷ []) = Alone P a × Alone Q b
+Two P Q (a ∷ b ∷ []) = IsSingle P a × IsSingle Q b
 Two P Q _ = ⊥
 
 -- The words that an operation makes at an address: one of an instruction or of a short form of one (Unprivileged ISA,
@@ -128,6 +128,6 @@ Contributes labels at line Li operands words =
 Contributes labels at line La operands words =
     (rd v : ℕ) × Two (λ r. IsRegister line r rd) (λ t. IsAddress labels line t v) operands × IsLoad rd v words
 Contributes labels at line Words operands words =
-    (0 < length words) × AllZip (λ a v. Alone (λ t. IsAddress labels line t v ⊎ IsWordValue t v) a) operands words
+    (0 < length words) × AllZip (λ a v. IsSingle (λ t. IsAddress labels line t v ⊎ IsWordValue t v) a) operands words
 Contributes labels at line Space operands words =
     (n : ℕ) × One (λ t. IsNumber t (pos (4 * n))) operands × (4 * n ≤ space_limit) × (words ≡ replicate n 0)

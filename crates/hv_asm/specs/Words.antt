@@ -123,8 +123,8 @@ abbrev pub zeros_of : List Operand → Result (List ℕ) AsmKind
 zeros_of operands = space_count operands >>= λ n. Ok (replicate n 0)
 
 -- a word alone
-abbrev pub alone : Result ℕ AsmKind → Result (List ℕ) AsmKind
-alone word = word >>= λ w. Ok (w ∷ [])
+abbrev pub single : Result ℕ AsmKind → Result (List ℕ) AsmKind
+single word = word >>= λ w. Ok (w ∷ [])
 
 -- the words of an operation
 unfoldable pub words_with : (List ℕ → Option Place) → ℕ → List ℕ → Operation → List Operand → Result (List ℕ) AsmKind
@@ -132,4 +132,4 @@ words_with find at line does.Li operands = li_words line operands
 words_with find at line does.La operands = la_words find line operands
 words_with find at line does.Words operands = value_words find line operands
 words_with find at line does.Space operands = zeros_of operands
-words_with find at line operation operands = alone (one_word find at line operation operands)
+words_with find at line operation operands = single (one_word find at line operation operands)

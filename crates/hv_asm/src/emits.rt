@@ -7,7 +7,7 @@ ghost use Rattle.hv_asm.specs.Emitted.{Appends};
 ghost use Rattle.std.specs.Prelude.{replicate};
 ghost use Rattle.hv_asm.specs.Forms.{UsesRegisters, form_of};
 ghost use Rattle.hv_asm.specs.Labels.{place_in};
-ghost use Rattle.hv_asm.specs.Words.{alone, zeros_of, bare_short as bare_short_of, csr_read_word as csr_read_word_of, csr_write_word as csr_write_word_of, high_part as high_part_of, is_defined as is_defined_of, is_value as is_value_of, la_words as la_words_of, li_words as li_words_of, low_part as low_part_of, move_word as move_word_of, one_word as one_word_of, pair_words as pair_words_of, space_count as space_count_of, value as value_of, value_at as value_at_of, value_words as value_words_of, values_of, words_with as words_with_of};
+ghost use Rattle.hv_asm.specs.Words.{single, zeros_of, bare_short as bare_short_of, csr_read_word as csr_read_word_of, csr_write_word as csr_write_word_of, high_part as high_part_of, is_defined as is_defined_of, is_value as is_value_of, la_words as la_words_of, li_words as li_words_of, low_part as low_part_of, move_word as move_word_of, one_word as one_word_of, pair_words as pair_words_of, space_count as space_count_of, value as value_of, value_at as value_at_of, value_words as value_words_of, values_of, words_with as words_with_of};
 
 use crate::AsmKind;
 use crate::amounts::{Amount, word};
@@ -349,7 +349,7 @@ fn push_pair(out: &mut Vec<u32>, pair: Result<[u32; 2], AsmKind>) -> Result<(), 
 }
 
 fn push_one(out: &mut Vec<u32>, word: Result<u32, AsmKind>) -> Result<(), EmitEnd>
-    ensures { Appends result (alone word) out.old.items out.new.items }
+    ensures { Appends result (single word) out.old.items out.new.items }
 {
     let word = word?;
     out.push(word)?;

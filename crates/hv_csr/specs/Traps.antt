@@ -13,8 +13,8 @@ abbrev pub cause_word : ℕ → Bool → ℕ
 cause_word cause interrupt = if interrupt then 2 ^ 31 + cause else cause
 
 -- the base of the vector, or in mode 1 for an interrupt the word of that cause behind it (sections 3.1.7 and 4.1.2)
-abbrev pub entry_of : ℕ → ℕ → Bool → ℕ
-entry_of vector cause interrupt =
+abbrev pub handler_of : ℕ → ℕ → Bool → ℕ
+handler_of vector cause interrupt =
     if interrupt && vector % 4 == 1 then (vector - vector % 4 + 4 * cause) % 2 ^ 32 else vector - vector % 4
 
 -- mstatus on entry to M: MPIE becomes MIE, MIE 0 and MPP the old mode (section 3.1.6.1)
@@ -29,14 +29,14 @@ entered_s w mode = field_put (field_put (field_put w 5 1 (field_of w 1 1)) 1 1 0
 abbrev pub take_trap_of : Regs → ℕ → Bool → ℕ → Regs
 take_trap_of r cause interrupt tval =
     if goes_down r cause interrupt then record r {
-      pc = entry_of r.stvec cause interrupt;
+      pc = handler_of r.stvec cause interrupt;
       mode = 1;
       mstatus = entered_s r.mstatus r.mode;
       sepc = r.pc;
       scause = cause_word cause interrupt;
       stval = tval;
     } else record r {
-      pc = entry_of r.mtvec cause interrupt;
+      pc = handler_of r.mtvec cause interrupt;
       mode = 3;
       mstatus = entered_m r.mstatus r.mode;
       mepc = r.pc;

@@ -4,7 +4,7 @@ ghost use Rattle.std.specs.Prelude.{◌≡◌, ◌≢◌, ◌<◌, ◌==◌, ◌
 ghost use Rattle.hv_word.specs.Words.{field_of};
 ghost use Rattle.hv_cpu.specs.Modes.{mode_word};
 ghost use Rattle.hv_csr.specs.Access.{left_by};
-ghost use Rattle.hv_csr.specs.Traps.{goes_down, cause_word as cause_word_of, entry_of, take_trap_of, mret_of, sret_of, may_sret as may_sret_of};
+ghost use Rattle.hv_csr.specs.Traps.{goes_down, cause_word as cause_word_of, handler_of, take_trap_of, mret_of, sret_of, may_sret as may_sret_of};
 
 use crate::access::Illegal;
 use crate::status;
@@ -95,7 +95,7 @@ fn cause_word(cause: u32, interrupt: bool) -> u32
 // Where the trap goes on, by the trap vector.
 fn entry(vector: u32, cause: u32, interrupt: bool) -> u32
     requires { cause < 16 }
-    ensures is { result ≡ entry_of vector cause interrupt }
+    ensures is { result ≡ handler_of vector cause interrupt }
     ensures aligned { result % 4 ≡ 0 }
 {
     let base = vector - vector % 4;

@@ -10,7 +10,7 @@ use Rattle.hv_debug.specs.declared.debugger.Debugger.{Debugger}
 use Rattle.hv_debug.specs.declared.player.Player.{Player}
 use Rattle.hv_debug.specs.declared.stop.Break.{Break}
 use Rattle.hv_debug.specs.declared.stop.Stop.{Stop}
-use Rattle.hv_debug.specs.Answers.{at_line, echo_line}
+use Rattle.hv_debug.specs.Answers.{halt_line, echo_line}
 use Rattle.hv_debug.specs.Playing.{steps_from}
 use Rattle.hv_debug.specs.Reaching.{Becomes, Halts, HasReached, IsSession, StaysOnWay}
 use Rattle.hv_debug.specs.Transcript.{Session, after_line, after_command, after_steps, with_text}
@@ -25,7 +25,7 @@ stayed start moves d e here there s same player h =
 pub goes_on : (d e : Debugger) (here there : State) (count : ℕ) (stop : Stop)
     → Halts d.breaks.items count d.player here e.player there stop
     → e.breaks.items ≡ d.breaks.items
-    → e.out.items ≡ d.out.items ++ at_line e.player.steps stop
+    → e.out.items ≡ d.out.items ++ halt_line e.player.steps stop
     → Becomes (after_steps count) d here e there
 goes_on d e here there count stop halts breaks text start moves s h =
     let x = subst (λ (bs : List Break). Halts bs count d.player here e.player there stop) h.breaks halts start moves s.reached h.reached in
@@ -33,8 +33,8 @@ goes_on d e here there count stop halts breaks text start moves s h =
       reached = x.0;
       breaks = breaks ∙ h.breaks;
       text = text
-          ∙ ap (λ (t : List ℕ). t ++ at_line e.player.steps stop) h.text
-          ∙ ap₂ (λ (n : ℕ) (why : Stop). s.text ++ at_line n why) x.0.steps x.1;
+          ∙ ap (λ (t : List ℕ). t ++ halt_line e.player.steps stop) h.text
+          ∙ ap₂ (λ (n : ℕ) (why : Stop). s.text ++ halt_line n why) x.0.steps x.1;
     }
 
 -- the words of a command are told before it is done

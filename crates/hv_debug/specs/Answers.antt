@@ -40,8 +40,8 @@ stop_text AtBreak = codes " break"
 stop_text AtEnd = codes " end"
 
 -- how many steps were made, and why they ended
-abbrev pub at_line : ℕ → Stop → List ℕ
-at_line steps stop = line (codes "at " ++ decimal steps ++ stop_text stop)
+abbrev pub halt_line : ℕ → Stop → List ℕ
+halt_line steps stop = line (codes "at " ++ decimal steps ++ stop_text stop)
 
 -- the registers of a machine; of hart 0 for the bare machine
 abbrev pub registers_text : State → Option (List Item) → List ℕ

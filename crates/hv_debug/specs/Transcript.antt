@@ -13,7 +13,7 @@ use Rattle.hv_report.specs.Report.{faults_text, hart_text}
 use Rattle.hv_run.specs.Record.{record_of, schedule}
 use Rattle.hv_text.specs.Text.{line}
 use Rattle.hv_debug.specs.declared.stop.Break.{Break}
-use Rattle.hv_debug.specs.Answers.{at_line, echo_line, map_text, mem_text, path_named, regs_text}
+use Rattle.hv_debug.specs.Answers.{halt_line, echo_line, map_text, mem_text, path_named, regs_text}
 use Rattle.hv_debug.specs.Playing.{Halted, Reached, steps_from, steps_of}
 
 -- what the debugger has come to: how far the schedule is played, the breakpoints, and what was written
@@ -32,7 +32,7 @@ with_text s text = record s { text = s.text ++ text }
 
 -- where the steps of a command ended is told
 abbrev pub after_halt : Session → Halted → Session
-after_halt s h = with_text (record s { reached = h.reached }) (at_line (steps_of h.reached) h.stop)
+after_halt s h = with_text (record s { reached = h.reached }) (halt_line (steps_of h.reached) h.stop)
 
 -- the steps of a command are made from where the session is
 abbrev pub after_steps : ℕ → State → Session → Session

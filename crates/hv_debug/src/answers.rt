@@ -4,7 +4,7 @@ ghost use Rattle.std.specs.Prelude.{◌≡◌, ◌++◌, ◌<◌, OnOk, length};
 ghost use Rattle.hv_run.specs.Play.{play_record};
 ghost use Rattle.hv_map.specs.Chain.{map_along};
 ghost use Rattle.hv_report.specs.Report.{faults_text, hart_text};
-ghost use Rattle.hv_debug.specs.Answers.{at_line, echo_line, end_text, map_text, mem_text, page_trail, pages_text, regs_text, stop_text, trail_text};
+ghost use Rattle.hv_debug.specs.Answers.{halt_line, echo_line, end_text, map_text, mem_text, page_trail, pages_text, regs_text, stop_text, trail_text};
 
 use crate::machines::{chain_of, page_of};
 use crate::stop::Stop;
@@ -29,7 +29,7 @@ pub(crate) fn put_echo(out: &mut Vec<u8>, words: &[u8]) -> Result<(), AllocError
 
 /// Appends how many steps were made, and why the last ones ended.
 pub(crate) fn put_at(out: &mut Vec<u8>, steps: u64, stop: Stop) -> Result<(), AllocError>
-    ensures { OnOk result (out.new.items ≡ out.old.items ++ at_line steps stop) }
+    ensures { OnOk result (out.new.items ≡ out.old.items ++ halt_line steps stop) }
 {
     put_number(out, b"at ", steps)?;
     put_stop(out, stop)?;

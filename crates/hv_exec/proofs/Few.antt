@@ -16,7 +16,7 @@ use Rattle.hv_csr.specs.declared.csr.Csr.{Csr}
 use Rattle.hv_csr.specs.declared.csr.Csr.TheVariants.{Sstatus, Sie, Stvec, Scounteren, Sscratch, Sepc, Scause, Stval, Sip, Satp, Mstatus, Misa, Medeleg, Mideleg, Mie, Mtvec, Mcounteren, Mstatush, Mscratch, Mepc, Mcause, Mtval, Mip, Mvendorid, Marchid, Mimpid, Mhartid}
 use Rattle.hv_csr.specs.Table.{row_of, csr_of, sstatus_mask, ssi, merge, vector, on_word, status_of}
 use Rattle.hv_csr.specs.Access.{is_barred, is_read_only, write_at, csr_read_of, csr_write_of}
-use Rattle.hv_csr.specs.Traps.{goes_down, cause_word, entry_of, entered_m, entered_s, take_trap_of, left_m, left_s, unprivileged, mret_of, may_sret, sret_of}
+use Rattle.hv_csr.specs.Traps.{goes_down, cause_word, handler_of, entered_m, entered_s, take_trap_of, left_m, left_s, unprivileged, mret_of, may_sret, sret_of}
 use Rattle.std.proofs.lemmas.Option.{same_Some}
 use Rattle.hv_store.specs.declared.access.Access.{Access}
 use Rattle.hv_store.specs.declared.access.Access.TheVariants.{Read, Write, Fetch}
@@ -34,7 +34,7 @@ use Rattle.hv_exec.specs.declared.system.Update.{Update}
 use Rattle.hv_exec.specs.declared.system.Update.TheVariants.{Replace, Set, Clear}
 use Rattle.hv_exec.specs.Arithmetic.{sum_of, difference_of, is_less_signed, flag_of, shift_left, shift_right, shift_right_signed, even_of}
 use Rattle.hv_exec.specs.Answer.{Answer, Next, Trap, Load, Store, Enter, advanced, given, passed, at_target, jumped, branched}
-use Rattle.hv_exec.specs.Memory.{bytes_of, loading, storing, lane_at, extended}
+use Rattle.hv_exec.specs.Memory.{width_bytes, loading, storing, lane_at, extended}
 use Rattle.hv_exec.specs.System.{new_value, stored_csr, answered_csr, read_csr, csr_row, returned, may_wait, may_fence, entering}
 use Rattle.hv_exec.specs.Do.{gives, row_answer, do_of}
 use Rattle.hv_exec.specs.Act.{Done, trapped, loaded, load_at, stored, store_at, entered, enter_page, enter_at, carried_out, decoded, fetched, fetch_at, act_of}
@@ -150,7 +150,7 @@ few_pc n r q v f = few_all n r q (record q { pc = v }) ((0, v) ∷ []) refl f
 
 abbrev trap_down : Regs → ℕ → Bool → ℕ → Regs
 trap_down r cause interrupt tval = record r {
-  pc = entry_of r.stvec cause interrupt;
+  pc = handler_of r.stvec cause interrupt;
   mode = 1;
   mstatus = entered_s r.mstatus r.mode;
   sepc = r.pc;
@@ -160,7 +160,7 @@ trap_down r cause interrupt tval = record r {
 
 abbrev trap_up : Regs → ℕ → Bool → ℕ → Regs
 trap_up r cause interrupt tval = record r {
-  pc = entry_of r.mtvec cause interrupt;
+  pc = handler_of r.mtvec cause interrupt;
   mode = 3;
   mstatus = entered_m r.mstatus r.mode;
   mepc = r.pc;
@@ -173,8 +173,8 @@ unfolding set_all
 few_trap r cause interrupt tval = by (goes_down r cause interrupt)
   where
     by : (t : Bool) → Few 6 r (cond t (trap_down r cause interrupt tval) (trap_up r cause interrupt tval))
-    by true = few_all 0 r r (trap_down r cause interrupt tval) ((0, entry_of r.stvec cause interrupt) ∷ (32, 1) ∷ (33, entered_s r.mstatus r.mode) ∷ (44, r.pc) ∷ (45, cause_word cause interrupt) ∷ (46, tval) ∷ []) refl (few_same r)
-    by false = few_all 0 r r (trap_up r cause interrupt tval) ((0, entry_of r.mtvec cause interrupt) ∷ (32, 3) ∷ (33, entered_m r.mstatus r.mode) ∷ (35, r.pc) ∷ (36, cause_word cause interrupt) ∷ (37, tval) ∷ []) refl (few_same r)
+    by true = few_all 0 r r (trap_down r cause interrupt tval) ((0, handler_of r.stvec cause interrupt) ∷ (32, 1) ∷ (33, entered_s r.mstatus r.mode) ∷ (44, r.pc) ∷ (45, cause_word cause interrupt) ∷ (46, tval) ∷ []) refl (few_same r)
+    by false = few_all 0 r r (trap_up r cause interrupt tval) ((0, handler_of r.mtvec cause interrupt) ∷ (32, 3) ∷ (33, entered_m r.mstatus r.mode) ∷ (35, r.pc) ∷ (36, cause_word cause interrupt) ∷ (37, tval) ∷ []) refl (few_same r)
 
 -- a trap
 pub trap_few : (r : Regs) (cause : ℕ) (interrupt : Bool) (tval : ℕ) → changed_regs r (take_trap_of r cause interrupt tval) ≤ 6
@@ -303,7 +303,7 @@ few_passed false w r = tt
 
 few_loading : (r : Regs) (address : ℕ) (width : Width) (signed : Bool) (rd : ℕ) → FewNext r (loading address width signed rd)
 unfolding FewNext loading
-few_loading r address width signed rd = by (address % bytes_of width == 0)
+few_loading r address width signed rd = by (address % width_bytes width == 0)
   where
     by : (t : Bool) → FewNext r (cond t (Load address width signed rd) (Trap 4 address))
     by true = tt
@@ -311,7 +311,7 @@ few_loading r address width signed rd = by (address % bytes_of width == 0)
 
 few_storing : (r : Regs) (address : ℕ) (width : Width) (v : ℕ) → FewNext r (storing address width v)
 unfolding FewNext storing
-few_storing r address width v = by (address % bytes_of width == 0)
+few_storing r address width v = by (address % width_bytes width == 0)
   where
     by : (t : Bool) → FewNext r (cond t (Store address width v) (Trap 6 address))
     by true = tt

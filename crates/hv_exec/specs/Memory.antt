@@ -9,21 +9,21 @@ use Rattle.hv_exec.specs.declared.answer.Width.TheVariants.{Byte as OneByte, Hal
 use Rattle.hv_exec.specs.Answer.{Answer, Trap, Load, Store}
 
 -- how many bytes an access has
-abbrev pub bytes_of : Width → ℕ
-bytes_of OneByte = 1
-bytes_of TwoBytes = 2
-bytes_of FourBytes = 4
+abbrev pub width_bytes : Width → ℕ
+width_bytes OneByte = 1
+width_bytes TwoBytes = 2
+width_bytes FourBytes = 4
 
 -- A load of a misaligned address raises cause 4 with that address, before it is translated
 -- (Privileged Architecture, section 3.1.15 and table 3.7).
 unfoldable pub loading : ℕ → Width → Bool → ℕ → Answer
 loading address width signed rd =
-    if address % bytes_of width == 0 then Load address width signed rd else Trap 4 address
+    if address % width_bytes width == 0 then Load address width signed rd else Trap 4 address
 
 -- a store of one raises cause 6
 unfoldable pub storing : ℕ → Width → ℕ → Answer
 storing address width value =
-    if address % bytes_of width == 0 then Store address width value else Trap 6 address
+    if address % width_bytes width == 0 then Store address width value else Trap 6 address
 
 -- the lane of its word that an aligned access moves, from its offset in a page
 abbrev pub lane_at : Width → ℕ → Lane

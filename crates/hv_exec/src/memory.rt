@@ -4,7 +4,7 @@ ghost use Rattle.std.specs.Prelude.{◌≡◌, ◌<◌, ◌≤◌};
 ghost use Rattle.hv_word.specs.Words.{IsLane};
 ghost use Rattle.hv_cpu.specs.Regs.{Regs};
 ghost use Rattle.hv_exec.specs.Answer.{answered, IsInRange};
-ghost use Rattle.hv_exec.specs.Memory.{bytes_of, loading, storing, lane_at, extended};
+ghost use Rattle.hv_exec.specs.Memory.{width_bytes, loading, storing, lane_at, extended};
 
 use crate::answer::{Task, Width};
 use hv_word::{Lane, sext};
@@ -79,7 +79,7 @@ pub(crate) fn extend(width: Width, signed: bool, value: u32) -> u32
 // How many bytes an access moves.
 #[inline(always)]
 fn bytes(width: Width) -> u32
-    ensures bytes { result ≡ bytes_of width }
+    ensures bytes { result ≡ width_bytes width }
     ensures some { 1 ≤ result }
 {
     match width {

@@ -21,7 +21,7 @@ use Rattle.hv_map.specs.Item.{Item}
 use Rattle.hv_map.specs.Links.{last_block}
 use Rattle.hv_map.specs.Gathered.{Listed, Gathered, bare_gathered_map, gathered_map, slots_of}
 use Rattle.hv_map.proofs.GatheredMaps.{slots-bare, slots-gathered_map}
-use Rattle.hv_nest.specs.Step.{Worked, act_step, child_at, child_step, child_through, host_step_of, put_back, step_of, step_on}
+use Rattle.hv_nest.specs.Step.{Worked, act_step, child_step_at, child_step, child_step_through, host_step_of, put_back, step_of, step_on}
 use Rattle.hv_nest.proofs.Rows.{row_acts}
 use Rattle.hv_fast.specs.Laws.{RideLaw}
 use Rattle.hv_fast.specs.Marked.{BlocksIn, Marked, SameMarked, listed}
@@ -58,9 +58,9 @@ goes_in n S N F p j h r x is placed names some quiet =
     ∙ ap (option_map (λ (n : Gathered). n.slot)) placed.found
     in
     ap (step_on (Some (step_of n)) S F j h r) quiet
-    ∙ ap (λ (b : Bool). cond b (act_step (act_of S F h r)) (child_at (step_of n) S F j r (slice_get F r.next))) (ne_eqb r.next 0 runs)
-    ∙ ap (child_at (step_of n) S F j r) slot
-    ∙ ap (child_through (step_of n) S F j r) placed.opens
+    ∙ ap (λ (b : Bool). cond b (act_step (act_of S F h r)) (child_step_at (step_of n) S F j r (slice_get F r.next))) (ne_eqb r.next 0 runs)
+    ∙ ap (child_step_at (step_of n) S F j r) slot
+    ∙ ap (child_step_through (step_of n) S F j r) placed.opens
     ∙ ap (child_step (step_of n) S F j r x.block) (said S x placed.says)
 
 -- the registers in each of the items' blocks, but the last, are the same in two storages

@@ -6,7 +6,7 @@ use Rattle.std.specs.Prelude.{IsErrAnd}
 use Rattle.hv_line.specs.Statements.{statement_of, storage_line_of}
 use Rattle.hv_job.specs.Commands.{commands_from}
 use Rattle.hv_job.specs.Drafted.{GivesJob, Refuses}
-use Rattle.hv_job.specs.JobOf.{Answer, and_then, begins_image, body_from, draft_of, header_from, is_debug, is_image, job_in, job_with, line_with, storage_from, behind_storage}
+use Rattle.hv_job.specs.JobOf.{ReadJob, and_then, begins_image, body_from, draft_of, header_from, is_debug, is_image, job_in, job_with, line_with, storage_from, behind_storage}
 use Rattle.hv_line.specs.Lines.{has_words, is_allowed, is_header, words_of}
 use Rattle.hv_line.specs.declared.types.Statement.{Statement}
 use Rattle.hv_job.specs.declared.draft.Draft.{Draft}
@@ -19,12 +19,12 @@ use Rattle.hv_job.specs.declared.job.Job.{Job}
 use Rattle.hv_job.proofs.Ending.{no_lines}
 
 -- the header
-pub header_end : (n : ℕ) (s : List ℕ) (all : Answer) → length s ≡ 0 → header_from n (lines_of s) ≡ all → all ≡ Err (n, fault.Header)
+pub header_end : (n : ℕ) (s : List ℕ) (all : ReadJob) → length s ≡ 0 → header_from n (lines_of s) ≡ all → all ≡ Err (n, fault.Header)
 unfolding header_from
 header_end n s all none told = sym told ∙ ap (header_from n) (no_lines s none)
 
-module _ (n : ℕ) (s line behind : List ℕ) (all : Answer) (cut : lines_of s ≡ line ∷ lines_of behind) where
-  abbrev choice : (allowed words header : Bool) → Answer
+module _ (n : ℕ) (s line behind : List ℕ) (all : ReadJob) (cut : lines_of s ≡ line ∷ lines_of behind) where
+  abbrev choice : (allowed words header : Bool) → ReadJob
   choice allowed words header =
       cond (not allowed) (Err (n, fault.Byte)) (cond (not words) (header_from (n + 1) (lines_of behind)) (cond header (storage_from (n + 1) (lines_of behind)) (Err (n, fault.Header))))
 
@@ -46,12 +46,12 @@ module _ (n : ℕ) (s line behind : List ℕ) (all : Answer) (cut : lines_of s �
   header_found told a w h = sym told ∙ header_is true true true a w h
 
 -- the storage
-pub storage_end : (n : ℕ) (s : List ℕ) (all : Answer) → length s ≡ 0 → storage_from n (lines_of s) ≡ all → all ≡ Err (n, fault.Storage)
+pub storage_end : (n : ℕ) (s : List ℕ) (all : ReadJob) → length s ≡ 0 → storage_from n (lines_of s) ≡ all → all ≡ Err (n, fault.Storage)
 unfolding storage_from
 storage_end n s all none told = sym told ∙ ap (storage_from n) (no_lines s none)
 
-module _ (n : ℕ) (s line behind : List ℕ) (all : Answer) (cut : lines_of s ≡ line ∷ lines_of behind) where
-  abbrev place : (allowed words : Bool) → Answer
+module _ (n : ℕ) (s line behind : List ℕ) (all : ReadJob) (cut : lines_of s ≡ line ∷ lines_of behind) where
+  abbrev place : (allowed words : Bool) → ReadJob
   place allowed words =
       cond (not allowed) (Err (n, fault.Byte)) (cond (not words) (storage_from (n + 1) (lines_of behind)) (behind_storage n (lines_of behind) (storage_line_of (words_of line))))
 
@@ -72,16 +72,16 @@ module _ (n : ℕ) (s line behind : List ℕ) (all : Answer) (cut : lines_of s �
   storage_found pages told a w p = sym told ∙ storage_is true true a w ∙ ap (behind_storage n (lines_of behind)) p
 
 -- the lines behind it
-pub body_end : (draft : Draft) (n : ℕ) (s : List ℕ) (all : Answer) (commands : List DebugLine) (job : Job) → length s ≡ 0 → body_from draft false n (lines_of s) ≡ all → job ≡ job_in draft commands → commands ≡ [] → all ≡ Ok job
+pub body_end : (draft : Draft) (n : ℕ) (s : List ℕ) (all : ReadJob) (commands : List DebugLine) (job : Job) → length s ≡ 0 → body_from draft false n (lines_of s) ≡ all → job ≡ job_in draft commands → commands ≡ [] → all ≡ Ok job
 unfolding body_from
 body_end draft n s all commands job none told is empty =
     rw (is, empty) (sym told ∙ ap (body_from draft false n) (no_lines s none))
 
-module _ (draft : Draft) (n : ℕ) (s line behind : List ℕ) (all : Answer) (cut : lines_of s ≡ line ∷ lines_of behind) (told : body_from draft false n (lines_of s) ≡ all) where
-  abbrev next : Draft → Answer
+module _ (draft : Draft) (n : ℕ) (s line behind : List ℕ) (all : ReadJob) (cut : lines_of s ≡ line ∷ lines_of behind) (told : body_from draft false n (lines_of s) ≡ all) where
+  abbrev next : Draft → ReadJob
   next new = body_from new (begins_image line) (n + 1) (lines_of behind)
 
-  abbrev ended : Answer
+  abbrev ended : ReadJob
   ended = job_with draft (commands_from [] (n + 1) (lines_of behind))
 
   body_is : (last : Bool) → is_debug line ≡ last → body_from draft false n (lines_of s) ≡ cond last ended (and_then (line_with draft n line (lines_of behind)) next)
@@ -117,6 +117,6 @@ unfolding begins_image
 begins line statement is = ap is_image is
 
 -- a refusal that goes on as it is
-pub passes_on : (r : Result Job JobEnd) (end : JobEnd) (text : Answer) → IsErrAnd r (λ given. given ≡ end) → Refuses end text → GivesJob r text
+pub passes_on : (r : Result Job JobEnd) (end : JobEnd) (text : ReadJob) → IsErrAnd r (λ given. given ≡ end) → Refuses end text → GivesJob r text
 passes_on (Ok job) end text is refuses = elim is [ ]
 passes_on (Err given) end text is refuses = subst (λ given. Refuses given text) (sym is) refuses

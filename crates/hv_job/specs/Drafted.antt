@@ -6,7 +6,7 @@ use Rattle.hv_line.specs.Answers.{LineRefuses}
 use Rattle.hv_line.specs.declared.kinds.JobKind.{JobKind}
 use Rattle.hv_line.specs.declared.kinds.JobLineEnd.{JobLineEnd}
 use Rattle.hv_line.specs.declared.kinds.JobLineEnd.TheVariants as line
-use Rattle.hv_job.specs.JobOf.{Answer, asm_kind}
+use Rattle.hv_job.specs.JobOf.{ReadJob, asm_kind}
 use Rattle.hv_job.specs.declared.draft.Draft.{Draft}
 use Rattle.hv_job.specs.declared.ends.JobEnd.{JobEnd}
 use Rattle.hv_job.specs.declared.ends.JobEnd.TheVariants.{JobFault, Memory}
@@ -20,7 +20,7 @@ Refuses (JobFault line kind) text = text ≡ Err (line, kind)
 Refuses Memory text = Unit {0}
 
 -- the job is the one that the text has
-abbrev pub GivesJob : Result Job JobEnd → Answer → Type 0
+abbrev pub GivesJob : Result Job JobEnd → ReadJob → Type 0
 GivesJob (Ok job) text = text ≡ Ok job
 GivesJob (Err end) text = Refuses end text
 
@@ -55,7 +55,7 @@ FitsBehind (asm.AsmFault line kind) number = number + line < 2 ^ 32
 FitsBehind asm.Memory number = Unit {0}
 
 -- a place of a text, from which on it has the same job
-abbrev pub LeadsTo : {A : Type 0} → Result A JobEnd → Answer → (A → Answer) → Type 0
+abbrev pub LeadsTo : {A : Type 0} → Result A JobEnd → ReadJob → (A → ReadJob) → Type 0
 LeadsTo (Ok place) text next = text ≡ next place
 LeadsTo (Err end) text next = Refuses end text
 

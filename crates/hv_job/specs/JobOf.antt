@@ -27,8 +27,8 @@ use Rattle.hv_job.specs.declared.job.Job.{Job}
 use Rattle.hv_job.specs.declared.job.Placed.{Placed}
 
 -- a job, or the number of a line and why it is refused
-abbrev pub Answer : Type 0
-Answer = Result Job (ℕ × JobKind)
+abbrev pub ReadJob : Type 0
+ReadJob = Result Job (ℕ × JobKind)
 
 -- a line that ends an image
 unfoldable pub is_end : List ℕ → Bool
@@ -177,18 +177,18 @@ job_in draft commands = record {
 }
 
 -- the job with these commands, or the first line of them that is refused
-abbrev pub job_with : Draft → Result (List DebugLine) (ℕ × JobKind) → Answer
+abbrev pub job_with : Draft → Result (List DebugLine) (ℕ × JobKind) → ReadJob
 job_with draft (Ok commands) = Ok (job_in draft commands)
 job_with draft (Err refusal) = Err refusal
 
 -- what follows where no line of directives was refused
-abbrev pub and_then : Result Draft (ℕ × JobKind) → (Draft → Answer) → Answer
+abbrev pub and_then : Result Draft (ℕ × JobKind) → (Draft → ReadJob) → ReadJob
 and_then (Ok draft) next = next draft
 and_then (Err refusal) next = Err refusal
 
 -- the job of a draft and the lines behind, the first of which has this number; the lines inside an image were read with
 -- the line that began it
-unfoldable pub body_from : Draft → Bool → ℕ → List (List ℕ) → Answer
+unfoldable pub body_from : Draft → Bool → ℕ → List (List ℕ) → ReadJob
 body_from draft inside number [] = Ok (job_in draft [])
 body_from draft true number (line ∷ lines) = body_from draft (not (is_end line)) (number + 1) lines
 body_from draft false number (line ∷ lines) =
@@ -200,12 +200,12 @@ abbrev pub draft_of : ℕ → Draft
 draft_of pages = record { pages = pages; harts = None; lines = []; recording = [] }
 
 -- the job of the lines behind the storage's, or the refusal of that line
-abbrev pub behind_storage : ℕ → List (List ℕ) → Result ℕ JobKind → Answer
+abbrev pub behind_storage : ℕ → List (List ℕ) → Result ℕ JobKind → ReadJob
 behind_storage number lines (Ok pages) = body_from (draft_of pages) false (number + 1) lines
 behind_storage number lines (Err kind) = Err (number, kind)
 
 -- the job of the lines behind the header
-unfoldable pub storage_from : ℕ → List (List ℕ) → Answer
+unfoldable pub storage_from : ℕ → List (List ℕ) → ReadJob
 storage_from number [] = Err (number, fault.Storage)
 storage_from number (line ∷ lines) =
     if not (is_allowed line) then Err (number, fault.Byte)
@@ -213,7 +213,7 @@ storage_from number (line ∷ lines) =
     else behind_storage number lines (storage_line_of (words_of line))
 
 -- the job of the lines from its beginning
-unfoldable pub header_from : ℕ → List (List ℕ) → Answer
+unfoldable pub header_from : ℕ → List (List ℕ) → ReadJob
 header_from number [] = Err (number, fault.Header)
 header_from number (line ∷ lines) =
     if not (is_allowed line) then Err (number, fault.Byte)
@@ -222,5 +222,5 @@ header_from number (line ∷ lines) =
     else Err (number, fault.Header)
 
 -- the job of a text
-unfoldable pub job_of : List ℕ → Answer
+unfoldable pub job_of : List ℕ → ReadJob
 job_of text = header_from 1 (lines_of text)

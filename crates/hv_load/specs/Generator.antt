@@ -56,8 +56,8 @@ abbrev pub kernel_of : (seed : ℕ) → List ℕ
 kernel_of seed = additions seed 511 ++ word_of jump_back ∷ []
 
 -- the steps of hart 0 that the kernel takes to be entered, if it isn't on the bare machine
-abbrev pub entry_of : (depth : ℕ) → List Event
-entry_of depth = if depth == 0 then [] else event.Turn 0 (3 * depth) ∷ []
+abbrev pub entry_turns : (depth : ℕ) → List Event
+entry_turns depth = if depth == 0 then [] else event.Turn 0 (3 * depth) ∷ []
 
 -- a turn of 2000 steps
 abbrev pub long_turn : Event
@@ -65,7 +65,7 @@ long_turn = event.Turn 0 2000
 
 -- the schedule: these steps, and a hundred turns
 unfoldable pub schedule_of : (depth : ℕ) → List Event
-schedule_of depth = entry_of depth ++ replicate 100 long_turn
+schedule_of depth = entry_turns depth ++ replicate 100 long_turn
 
 -- The lines have the numbers that they have in a text: `job 1`, the storage, the tower, the kernel as an image of 512
 -- lines up to `end` on line 517, the turns, and the watch.

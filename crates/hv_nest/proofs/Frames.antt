@@ -27,7 +27,7 @@ use Rattle.hv_limits.specs.Limits.{depth_limit}
 use Rattle.hv_nest.specs.declared.outcome.StepKind.{StepKind}
 use Rattle.hv_nest.specs.declared.outcome.StepKind.TheVariants.{Worked as WorkedKind, Recall, Fault}
 use Rattle.hv_nest.specs.Kinds.{step_as}
-use Rattle.hv_nest.specs.Step.{Stepped, Worked, Recalled, Faulted, Barred, Machine, idle, interrupt_of, act_step, tell_of, put_back, malformed, child_step, child_through as step_through, child_at as step_at, next_step, step_on, step_of, host_step_of}
+use Rattle.hv_nest.specs.Step.{Stepped, Worked, Recalled, Faulted, Barred, Machine, idle, interrupt_of, act_step, tell_of, put_back, malformed, child_step, child_step_through, child_step_at, next_step, step_on, step_of, host_step_of}
 use Rattle.hv_nest.specs.Frame.{is_kept_word, is_kept_in, is_kept_of, IsFramed, IsFramedBy}
 
 true-false : true ≡ false → ⊥
@@ -188,7 +188,7 @@ real_next : (S : List ℕ) (F : List Slot) (s : ℕ) → s ≢ 0 → child_next 
 real_next S F zero ne = absurd (ne refl)
 real_next S F (suc s) ne = refl
 
-no_child : (S : List ℕ) (F : List Slot) (j : ℕ) (r : Regs) (deeper : Machine) → child_of S F r.next ≡ None → FramedStep S F [] (step_at deeper S F j r (slice_get F r.next))
+no_child : (S : List ℕ) (F : List Slot) (j : ℕ) (r : Regs) (deeper : Machine) → child_of S F r.next ≡ None → FramedStep S F [] (child_step_at deeper S F j r (slice_get F r.next))
 unfolding FramedStep
 no_child S F j r deeper e = at (slice_get F r.next) refl e
   where
@@ -201,16 +201,16 @@ no_child S F j r deeper e = at (slice_get F r.next) refl e
         (λ a k. or_left (opens_for_writing F (a / 1024)) (is_kept_of [] a) (ap (opens_for_writing F) (kept_page g a k) ∙ open_to))
     contents g open_to (Some h) e = absurd (some-none record { syllable = r.next; block = g; pages = h.pages; table = h.table; version = h.version } e)
 
-    through : (slot : Slot) → slice_get F r.next ≡ Some slot → (way : Way) → slot.write ≡ way → child_through S r.next way ≡ None → FramedStep S F [] (step_through deeper S F j r way)
+    through : (slot : Slot) → slice_get F r.next ≡ Some slot → (way : Way) → slot.write ≡ way → child_through S r.next way ≡ None → FramedStep S F [] (child_step_through deeper S F j r way)
     through slot is (Open g) w e = contents g (may_write F r.next slot g is w) (block_of S g) e
     through slot is (Shut l c p k) w e = tt
 
-    at : (o : Option Slot) → slice_get F r.next ≡ o → child_at S r.next o ≡ None → FramedStep S F [] (step_at deeper S F j r o)
+    at : (o : Option Slot) → slice_get F r.next ≡ o → child_at S r.next o ≡ None → FramedStep S F [] (child_step_at deeper S F j r o)
     at None is e = tt
     at (Some slot) is e = through slot is slot.write refl e
 
 -- the child that runs is the one that its parent's next names
-child_goes : (S : List ℕ) (F : List Slot) (j : ℕ) (r : Regs) (deeper : Machine) (x : Item) → child_of S F r.next ≡ Some x → step_at deeper S F j r (slice_get F r.next) ≡ put_back S j r x.block (deeper S (compose S F j x.pages x.table x.version) (j + 1) 0 (regs_at S x.block))
+child_goes : (S : List ℕ) (F : List Slot) (j : ℕ) (r : Regs) (deeper : Machine) (x : Item) → child_of S F r.next ≡ Some x → child_step_at deeper S F j r (slice_get F r.next) ≡ put_back S j r x.block (deeper S (compose S F j x.pages x.table x.version) (j + 1) 0 (regs_at S x.block))
 child_goes S F j r deeper x e = at (slice_get F r.next) e
   where
     none-some : None ≡ Some x → ⊥
@@ -222,11 +222,11 @@ child_goes S F j r deeper x e = at (slice_get F r.next) e
         ap (λ (q : Regs). put_back S j r g (deeper S (compose S F j h.pages h.table h.version) (j + 1) 0 q)) (sym (ap (λ (k : Contents). k.regs) (block_holds S g h is).1))
         ∙ ap (λ (y : Item). put_back S j r y.block (deeper S (compose S F j y.pages y.table y.version) (j + 1) 0 (regs_at S y.block))) (same_Some record { syllable = r.next; block = g; pages = h.pages; table = h.table; version = h.version } x e)
 
-    through : (way : Way) → child_through S r.next way ≡ Some x → step_through deeper S F j r way ≡ put_back S j r x.block (deeper S (compose S F j x.pages x.table x.version) (j + 1) 0 (regs_at S x.block))
+    through : (way : Way) → child_through S r.next way ≡ Some x → child_step_through deeper S F j r way ≡ put_back S j r x.block (deeper S (compose S F j x.pages x.table x.version) (j + 1) 0 (regs_at S x.block))
     through (Open g) e = contents g (block_of S g) refl e
     through (Shut l c p k) e = absurd (none-some e)
 
-    at : (o : Option Slot) → child_at S r.next o ≡ Some x → step_at deeper S F j r o ≡ put_back S j r x.block (deeper S (compose S F j x.pages x.table x.version) (j + 1) 0 (regs_at S x.block))
+    at : (o : Option Slot) → child_at S r.next o ≡ Some x → child_step_at deeper S F j r o ≡ put_back S j r x.block (deeper S (compose S F j x.pages x.table x.version) (j + 1) 0 (regs_at S x.block))
     at None e = absurd (none-some e)
     at (Some slot) e = through slot.write e
 

@@ -23,7 +23,7 @@ use Rattle.hv_map.proofs.Assoc.{begins_from}
 use Rattle.hv_map.proofs.Slots.{length-composed}
 use Rattle.hv_map.proofs.Views.{composed_below}
 use Rattle.hv_map.proofs.Words.{follows}
-use Rattle.hv_nest.specs.Step.{Stepped, Worked, Recalled, Faulted, Barred, Machine, idle, interrupt_of, act_step, tell_of, put_back, malformed, too_deep, child_step, child_through as step_through, child_at as step_at, quiet_step, step_on, step_of}
+use Rattle.hv_nest.specs.Step.{Stepped, Worked, Recalled, Faulted, Barred, Machine, idle, interrupt_of, act_step, tell_of, put_back, malformed, too_deep, child_step, child_step_through, child_step_at, quiet_step, step_on, step_of}
 use Rattle.hv_nest.specs.Asks.{Ask, asks, refusal_through, refusal_at, refusal_of, first_refused}
 use Rattle.hv_nest.specs.Received.{HasBlock}
 use Rattle.hv_nest.specs.Routing.{regs_along, hart_along, is_calm}
@@ -167,11 +167,11 @@ module _ (deeper : Machine) (S : List ℕ) (F : List Slot) (j hart : ℕ) (r : R
   contents_stop g s None e = told_reason S j r g (malformed j r.next)
   contents_stop g s (Some contents) e = absurd (let f : Some record { syllable = s; block = g; pages = contents.pages; table = contents.table; version = contents.version } ≡ None = e in cc)
 
-  through_stops : (s : ℕ) (way : Way) → child_through S s way ≡ None → reason_of (step_through deeper S F j r way) ≡ blocked_through S j r.next way
+  through_stops : (s : ℕ) (way : Way) → child_through S s way ≡ None → reason_of (child_step_through deeper S F j r way) ≡ blocked_through S j r.next way
   through_stops s (Open g) e = contents_stop g s (block_of S g) e
   through_stops s (Shut l c p w) e = refl
 
-  slot_stops : (s : ℕ) (o : Option Slot) → child_at S s o ≡ None → reason_of (step_at deeper S F j r o) ≡ blocked_at S j r.next o
+  slot_stops : (s : ℕ) (o : Option Slot) → child_at S s o ≡ None → reason_of (child_step_at deeper S F j r o) ≡ blocked_at S j r.next o
   slot_stops s None e = refl
   slot_stops s (Some slot) e = through_stops s slot.write e
 
@@ -179,12 +179,12 @@ module _ (deeper : Machine) (S : List ℕ) (F : List Slot) (j hart : ℕ) (r : R
   contents_below g s None e = told_below S j r g (malformed j r.next) (omega arith)
   contents_below g s (Some contents) e = absurd (let f : Some record { syllable = s; block = g; pages = contents.pages; table = contents.table; version = contents.version } ≡ None = e in cc)
 
-  through_stops_below : (s : ℕ) (way : Way) → ((l c p : ℕ) (w : Option ℕ) → way ≡ Shut l c p w → l < j) → child_through S s way ≡ None → PassedBelow j (step_through deeper S F j r way)
+  through_stops_below : (s : ℕ) (way : Way) → ((l c p : ℕ) (w : Option ℕ) → way ≡ Shut l c p w → l < j) → child_through S s way ≡ None → PassedBelow j (child_step_through deeper S F j r way)
   through_stops_below s (Open g) below e = contents_below g s (block_of S g) e
   through_stops_below s (Shut l c p None) below e = below l c p None refl
   through_stops_below s (Shut l c p (Some w)) below e = below l c p (Some w) refl
 
-  slot_stops_below : ShutBelow j F → (s i : ℕ) → i < length F → (o : Option Slot) → slice_get F i ≡ o → child_at S s o ≡ None → PassedBelow j (step_at deeper S F j r o)
+  slot_stops_below : ShutBelow j F → (s i : ℕ) → i < length F → (o : Option Slot) → slice_get F i ≡ o → child_at S s o ≡ None → PassedBelow j (child_step_at deeper S F j r o)
   slot_stops_below below s i inside None there e = absurd (outside there)
     where
       outside : slice_get F i ≡ None → ⊥
@@ -206,12 +206,12 @@ module _ (deeper : Machine) (S : List ℕ) (F : List Slot) (j hart : ℕ) (r : R
       ∙ ap (λ (y : Item). put_back S j r y.block (deeper S (compose S F j y.pages y.table y.version) (j + 1) 0 (regs_at S y.block))) item
 
   through_goes : (s : ℕ) (x : Item) (way : Way) → child_through S s way ≡ Some x
-      → step_through deeper S F j r way ≡ put_back S j r x.block (deeper S (compose S F j x.pages x.table x.version) (j + 1) 0 (regs_at S x.block))
+      → child_step_through deeper S F j r way ≡ put_back S j r x.block (deeper S (compose S F j x.pages x.table x.version) (j + 1) 0 (regs_at S x.block))
   through_goes s x (Open g) e = contents_go g s x (block_of S g) refl e
   through_goes s x (Shut l c p w) e = absurd (let f : None ≡ Some x = e in cc)
 
   slot_goes : (s : ℕ) (x : Item) (o : Option Slot) → child_at S s o ≡ Some x
-      → step_at deeper S F j r o ≡ put_back S j r x.block (deeper S (compose S F j x.pages x.table x.version) (j + 1) 0 (regs_at S x.block))
+      → child_step_at deeper S F j r o ≡ put_back S j r x.block (deeper S (compose S F j x.pages x.table x.version) (j + 1) 0 (regs_at S x.block))
   slot_goes s x None e = absurd (let f : None ≡ Some x = e in cc)
   slot_goes s x (Some slot) e = through_goes s x slot.write e
 
@@ -220,21 +220,21 @@ module _ (deeper : Machine) (S : List ℕ) (F : List Slot) (j hart : ℕ) (r : R
   resumed_stops n e = go r.next e
     where
       go : (s : ℕ) → child_next S F s ≡ None
-          → reason_of (cond (s == 0) (act_step (act_of S F hart r)) (step_at deeper S F j r (slice_get F s)))
+          → reason_of (cond (s == 0) (act_step (act_of S F hart r)) (child_step_at deeper S F j r (slice_get F s)))
           ≡ cond (s == 0) (first_refusal F (asks S F hart r)) (blocked_at S j r.next (slice_get F s))
       go zero f = acts_reason S F hart r
       go (suc s) f =
-          ap (λ (b : Bool). reason_of (cond b (act_step (act_of S F hart r)) (step_at deeper S F j r (slice_get F (suc s))))) (next_some s)
+          ap (λ (b : Bool). reason_of (cond b (act_step (act_of S F hart r)) (child_step_at deeper S F j r (slice_get F (suc s))))) (next_some s)
           ∙ slot_stops (suc s) (slice_get F (suc s)) f
           ∙ sym (ap (λ (b : Bool). cond b (first_refusal F (asks S F hart r)) (blocked_at S j r.next (slice_get F (suc s)))) (next_some s))
 
   pub resumed_below : ShutBelow j F → r.next < length F → child_next S F r.next ≡ None → PassedBelow j (quiet_step (Some deeper) S F j hart r)
   resumed_below below inside e = go r.next inside e
     where
-      go : (s : ℕ) → s < length F → child_next S F s ≡ None → PassedBelow j (cond (s == 0) (act_step (act_of S F hart r)) (step_at deeper S F j r (slice_get F s)))
+      go : (s : ℕ) → s < length F → child_next S F s ≡ None → PassedBelow j (cond (s == 0) (act_step (act_of S F hart r)) (child_step_at deeper S F j r (slice_get F s)))
       go zero h f = acts_below S F j hart r below
       go (suc s) h f =
-          subst (λ (b : Bool). PassedBelow j (cond b (act_step (act_of S F hart r)) (step_at deeper S F j r (slice_get F (suc s))))) (sym (next_some s))
+          subst (λ (b : Bool). PassedBelow j (cond b (act_step (act_of S F hart r)) (child_step_at deeper S F j r (slice_get F (suc s))))) (sym (next_some s))
           (slot_stops_below below (suc s) (suc s) h (slice_get F (suc s)) refl f)
 
   -- what that leaves
@@ -242,23 +242,23 @@ module _ (deeper : Machine) (S : List ℕ) (F : List Slot) (j hart : ℕ) (r : R
   contents_received g s None inside has e = told_received S F j [] r g (malformed j r.next) inside has
   contents_received g s (Some contents) inside has e = absurd (let f : Some record { syllable = s; block = g; pages = contents.pages; table = contents.table; version = contents.version } ≡ None = e in cc)
 
-  through_received : (s : ℕ) (slot : Slot) (way : Way) → OpensInside (page_count S) F → slice_get F r.next ≡ Some slot → slot.write ≡ way → child_through S s way ≡ None → Received S F j [] r (step_through deeper S F j r way)
+  through_received : (s : ℕ) (slot : Slot) (way : Way) → OpensInside (page_count S) F → slice_get F r.next ≡ Some slot → slot.write ≡ way → child_through S s way ≡ None → Received S F j [] r (child_step_through deeper S F j r way)
   through_received s slot (Open g) bounds there writes e =
       let has : HasBlock F r.next g = record { slot = slot; there = there; writes = writes } in
       contents_received g s (block_of S g) (writes_inside (page_count S) F r.next g bounds has) has e
   through_received s slot (Shut l c p w) bounds there writes e = tt
 
-  slot_received : (s : ℕ) (o : Option Slot) → OpensInside (page_count S) F → slice_get F r.next ≡ o → child_at S s o ≡ None → Received S F j [] r (step_at deeper S F j r o)
+  slot_received : (s : ℕ) (o : Option Slot) → OpensInside (page_count S) F → slice_get F r.next ≡ o → child_at S s o ≡ None → Received S F j [] r (child_step_at deeper S F j r o)
   slot_received s None bounds there e = tt
   slot_received s (Some slot) bounds there e = through_received s slot slot.write bounds there refl e
 
   pub resumed_received : OpensInside (page_count S) F → child_next S F r.next ≡ None → Received S F j [] r (quiet_step (Some deeper) S F j hart r)
   resumed_received bounds e = go r.next refl e
     where
-      go : (s : ℕ) → r.next ≡ s → child_next S F s ≡ None → Received S F j [] r (cond (s == 0) (act_step (act_of S F hart r)) (step_at deeper S F j r (slice_get F s)))
+      go : (s : ℕ) → r.next ≡ s → child_next S F s ≡ None → Received S F j [] r (cond (s == 0) (act_step (act_of S F hart r)) (child_step_at deeper S F j r (slice_get F s)))
       go zero is f = worked_received S F j [] r (act_of S F hart r)
       go (suc s) is f =
-          subst (λ (b : Bool). Received S F j [] r (cond b (act_step (act_of S F hart r)) (step_at deeper S F j r (slice_get F (suc s))))) (sym (next_some s))
+          subst (λ (b : Bool). Received S F j [] r (cond b (act_step (act_of S F hart r)) (child_step_at deeper S F j r (slice_get F (suc s))))) (sym (next_some s))
           (slot_received (suc s) (slice_get F (suc s)) bounds (ap (slice_get F) is) f)
 
   pub resumed_goes : (x : Item) → child_next S F r.next ≡ Some x
@@ -266,10 +266,10 @@ module _ (deeper : Machine) (S : List ℕ) (F : List Slot) (j hart : ℕ) (r : R
   resumed_goes x e = go r.next e
     where
       go : (s : ℕ) → child_next S F s ≡ Some x
-          → cond (s == 0) (act_step (act_of S F hart r)) (step_at deeper S F j r (slice_get F s)) ≡ put_back S j r x.block (deeper S (compose S F j x.pages x.table x.version) (j + 1) 0 (regs_at S x.block))
+          → cond (s == 0) (act_step (act_of S F hart r)) (child_step_at deeper S F j r (slice_get F s)) ≡ put_back S j r x.block (deeper S (compose S F j x.pages x.table x.version) (j + 1) 0 (regs_at S x.block))
       go zero f = absurd (let h : None ≡ Some x = f in cc)
       go (suc s) f =
-          ap (λ (b : Bool). cond b (act_step (act_of S F hart r)) (step_at deeper S F j r (slice_get F (suc s)))) (next_some s)
+          ap (λ (b : Bool). cond b (act_step (act_of S F hart r)) (child_step_at deeper S F j r (slice_get F (suc s)))) (next_some s)
           ∙ slot_goes (suc s) x (slice_get F (suc s)) f
 
 -- at the deepest level it runs no child

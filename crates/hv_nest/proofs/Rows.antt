@@ -30,7 +30,7 @@ use Rattle.hv_nest.proofs.Told.{differences_itself}
 use Rattle.hv_nest.specs.declared.outcome.StepKind.{StepKind}
 use Rattle.hv_nest.specs.declared.outcome.StepKind.TheVariants.{Worked as WorkedKind, Recall, Fault}
 use Rattle.hv_nest.specs.Kinds.{step_as}
-use Rattle.hv_nest.specs.Step.{Stepped, Worked, Recalled, Faulted, Barred, Machine, idle, interrupt_of, act_step, tell_of, put_back, malformed, too_deep, child_step, child_through, child_at, next_step, quiet_step, step_on, step_of, host_step_of}
+use Rattle.hv_nest.specs.Step.{Stepped, Worked, Recalled, Faulted, Barred, Machine, idle, interrupt_of, act_step, tell_of, put_back, malformed, too_deep, child_step, child_step_through, child_step_at, next_step, quiet_step, step_on, step_of, host_step_of}
 
 -- an interrupt has a number below 16
 all_small : List ℕ → Type 0
@@ -73,7 +73,7 @@ by_found deeper S F j r (Some (Child g b)) =
 by_found deeper S F j r (Some (Malformed g)) = tell_of S j r g (malformed j r.next)
 by_found deeper S F j r (Some (Refused e)) = Barred e
 
-found_steps : (deeper : Machine) (S : List ℕ) (F : List Slot) (j : ℕ) (r : Regs) → child_at deeper S F j r (slice_get F r.next) ≡ by_found deeper S F j r (found_on S F r.next)
+found_steps : (deeper : Machine) (S : List ℕ) (F : List Slot) (j : ℕ) (r : Regs) → child_step_at deeper S F j r (slice_get F r.next) ≡ by_found deeper S F j r (found_on S F r.next)
 unfolding by_found
 found_steps deeper S F j r = at (slice_get F r.next)
   where
@@ -81,11 +81,11 @@ found_steps deeper S F j r = at (slice_get F r.next)
     contents g None = refl
     contents g (Some h) = refl
 
-    through : (way : Way) → child_through deeper S F j r way ≡ by_found deeper S F j r (Some (found_through S way))
+    through : (way : Way) → child_step_through deeper S F j r way ≡ by_found deeper S F j r (Some (found_through S way))
     through (Open g) = contents g (block_of S g)
     through (Shut l c p w) = refl
 
-    at : (o : Option Slot) → child_at deeper S F j r o ≡ by_found deeper S F j r (found_at S o)
+    at : (o : Option Slot) → child_step_at deeper S F j r o ≡ by_found deeper S F j r (found_at S o)
     at None = refl
     at (Some slot) = through slot.write
 
@@ -118,7 +118,7 @@ unfolding step_of
 row_found n m S F j h r o is e ne f =
     ap (λ (k : ℕ). step_of k S F j h r) is
     ∙ ap (step_on (Some (step_of m)) S F j h r) (sym e)
-    ∙ ap (λ (b : Bool). cond b (act_step (act_of S F h r)) (child_at (step_of m) S F j r (slice_get F r.next))) (ne_eqb r.next 0 ne)
+    ∙ ap (λ (b : Bool). cond b (act_step (act_of S F h r)) (child_step_at (step_of m) S F j r (slice_get F r.next))) (ne_eqb r.next 0 ne)
     ∙ found_steps (step_of m) S F j r
     ∙ ap (by_found (step_of m) S F j r) (sym f)
 

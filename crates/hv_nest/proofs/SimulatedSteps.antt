@@ -17,7 +17,7 @@ use Rattle.hv_block.proofs.Blocks.{block_alike, block_sized}
 use Rattle.hv_map.specs.Carried.{WayLike, SlotLike, MapLike}
 use Rattle.hv_map.specs.Compose.{compose, reading}
 use Rattle.hv_map.proofs.Like.{composed_like}
-use Rattle.hv_nest.specs.Step.{Stepped, Worked, Recalled, Faulted, Barred, Machine, idle, interrupt_of, act_step, tell_of, put_back, malformed, too_deep, child_step, child_through, child_at, next_step, step_on, step_with, step_of}
+use Rattle.hv_nest.specs.Step.{Stepped, Worked, Recalled, Faulted, Barred, Machine, idle, interrupt_of, act_step, tell_of, put_back, malformed, too_deep, child_step, child_step_through, child_step_at, next_step, step_on, step_with, step_of}
 use Rattle.hv_nest.specs.Simulation.{Sees, Simulation, deepened, StepLike, refused_further_out, both_work, both_recall, both_fault, both_refused}
 use Rattle.hv_nest.proofs.SimulatedAsks.{refused_below, refused_raised, opened}
 use Rattle.hv_nest.proofs.SimulatedActs.{ActLike, act_further_out, both_done, act_refused, act_like}
@@ -135,24 +135,24 @@ module _ (k : ℕ) (F : List Slot) (R : List ℕ → List ℕ → Type 0) (sim :
           (sym (block_alike S T x y (λ w lt. sees.agree y x w s is read lt)))
           (contents_like y x (opened F y x s is read) (block_of T y) refl)
 
-      stopped_like : (l c p : ℕ) (w : Option ℕ) (Y : Stepped) → l < k → StepLike k R (child_through d S H (j + k) r (Shut l c p w)) Y
+      stopped_like : (l c p : ℕ) (w : Option ℕ) (Y : Stepped) → l < k → StepLike k R (child_step_through d S H (j + k) r (Shut l c p w)) Y
       stopped_like l c p w Y low = refused_further_out (refused l c p w 0 Write) Y (refused_below k l c p w 0 Write low)
 
-      opened_like : (y : ℕ) (s : Slot) → slice_get F y ≡ Some s → (way : Way) → s.write ≡ way → StepLike k R (child_through d S H (j + k) r way) (child_through d' T G j r (Open y))
+      opened_like : (y : ℕ) (s : Slot) → slice_get F y ≡ Some s → (way : Way) → s.write ≡ way → StepLike k R (child_step_through d S H (j + k) r way) (child_step_through d' T G j r (Open y))
       opened_like y s is (Open x) e = block_like y x s is (sees.same y s Write x is e)
       opened_like y s is (Shut l c p w) e =
-          stopped_like l c p w (child_through d' T G j r (Open y)) (sees.below y s Write l c p w is e)
+          stopped_like l c p w (child_step_through d' T G j r (Open y)) (sees.below y s Write l c p w is e)
 
-      through_like : (h w : Way) → WayLike k F Write h w → StepLike k R (child_through d S H (j + k) r h) (child_through d' T G j r w)
+      through_like : (h w : Way) → WayLike k F Write h w → StepLike k R (child_step_through d S H (j + k) r h) (child_step_through d' T G j r w)
       through_like (Open x) w (inl e) = absurd e
-      through_like (Shut l c p v) w (inl e) = stopped_like l c p v (child_through d' T G j r w) e
+      through_like (Shut l c p v) w (inl e) = stopped_like l c p v (child_step_through d' T G j r w) e
       through_like h (Open y) (inr e) =
-          subst (λ (way : Way). StepLike k R (child_through d S H (j + k) r way) (child_through d' T G j r (Open y))) (sym e.2) (opened_like y e.0 e.1 e.0.write refl)
+          subst (λ (way : Way). StepLike k R (child_step_through d S H (j + k) r way) (child_step_through d' T G j r (Open y))) (sym e.2) (opened_like y e.0 e.1 e.0.write refl)
       through_like h (Shut l c p w) (inr e) =
-          subst (λ (way : Way). StepLike k R (child_through d S H (j + k) r way) (child_through d' T G j r (Shut l c p w))) (sym e)
+          subst (λ (way : Way). StepLike k R (child_step_through d S H (j + k) r way) (child_step_through d' T G j r (Shut l c p w))) (sym e)
           (subst (λ (f : Refusal). StepLike k R (Barred f) (Barred (refused l c p w 0 Write))) (sym (refused_raised k l c p w 0 Write)) (both_refused (refused l c p w 0 Write)))
 
-      slot_like : (o p : Option Slot) → SlotLike k F o p → StepLike k R (child_at d S H (j + k) r o) (child_at d' T G j r p)
+      slot_like : (o p : Option Slot) → SlotLike k F o p → StepLike k R (child_step_at d S H (j + k) r o) (child_step_at d' T G j r p)
       slot_like None None e = too_deep_like r.next
       slot_like None (Some g) e = absurd e
       slot_like (Some h) None e = absurd e

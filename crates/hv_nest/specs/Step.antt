@@ -76,20 +76,20 @@ child_step deeper S F j r g (Some contents) =
     put_back S j r g (deeper S (compose S F j contents.pages contents.table contents.version) (j + 1) 0 contents.regs)
 
 -- the same through the way for writing of the block's page, which may be shut
-abbrev pub child_through : Machine → List ℕ → List Slot → ℕ → Regs → Way → Stepped
-child_through deeper S F j r (Open g) = child_step deeper S F j r g (block_of S g)
-child_through deeper S F j r (Shut l c p w) = Barred (refused l c p w 0 Write)
+abbrev pub child_step_through : Machine → List ℕ → List Slot → ℕ → Regs → Way → Stepped
+child_step_through deeper S F j r (Open g) = child_step deeper S F j r g (block_of S g)
+child_step_through deeper S F j r (Shut l c p w) = Barred (refused l c p w 0 Write)
 
 -- The page of the block must be one that the machine may write. (A machine keeps its next below its number of pages, so the
 -- case of a page that it hasn't is never reached.)
-abbrev pub child_at : Machine → List ℕ → List Slot → ℕ → Regs → Option Slot → Stepped
-child_at deeper S F j r None = Barred (too_deep r.next)
-child_at deeper S F j r (Some slot) = child_through deeper S F j r slot.write
+abbrev pub child_step_at : Machine → List ℕ → List Slot → ℕ → Regs → Option Slot → Stepped
+child_step_at deeper S F j r None = Barred (too_deep r.next)
+child_step_at deeper S F j r (Some slot) = child_step_through deeper S F j r slot.write
 
 -- the child makes the step, unless the machine is at the deepest level
 abbrev pub next_step : Option Machine → List ℕ → List Slot → ℕ → Regs → Stepped
 next_step None S F j r = Barred (too_deep r.next)
-next_step (Some deeper) S F j r = child_at deeper S F j r (slice_get F r.next)
+next_step (Some deeper) S F j r = child_step_at deeper S F j r (slice_get F r.next)
 
 -- a step without an interrupt: an instruction of the machine's own, or the step of its child
 abbrev pub quiet_step : Option Machine → List ℕ → List Slot → ℕ → ℕ → Regs → Stepped

@@ -1,7 +1,7 @@
 -- One more piece of text behind those that are written.
 use Rattle.std.proofs.Common.{◌≡◌, ◌∙◌, ℕ, ◌+◌, List, [], ◌++◌, ap, sym, arith, append_assoc}
 use Rattle.std.specs.List.{flat_map, range_with_len}
-use Rattle.hv_report.specs.Dumps.{bytes_of, words_bytes, page_line, first_lines}
+use Rattle.hv_report.specs.Dumps.{dumped_bytes, words_bytes, page_line, first_lines}
 use Rattle.hv_nest.specs.State.{State}
 use Rattle.hv_report.specs.Report.{hart_text, first_harts}
 use Rattle.hv_apart.proofs.Growing.{range-push, flat_map-push}
@@ -18,9 +18,9 @@ text_more f front text a n j e is =
     ∙ sym (ap (flat_map f) (range-push a n)))
 
 -- the bytes of one word more
-pub bytes_more : (S : List ℕ) (g a n j : ℕ) (text : List ℕ) → a + n ≡ j → text ≡ words_bytes S g a n → text ++ bytes_of S g j ≡ words_bytes S g a (n + 1)
+pub bytes_more : (S : List ℕ) (g a n j : ℕ) (text : List ℕ) → a + n ≡ j → text ≡ words_bytes S g a n → text ++ dumped_bytes S g j ≡ words_bytes S g a (n + 1)
 unfolding words_bytes
-bytes_more S g a n j text e is = text_more (bytes_of S g) [] text a n j e is
+bytes_more S g a n j text e is = text_more (dumped_bytes S g) [] text a n j e is
 
 -- the text of one line more
 pub lines_more : (S front text : List ℕ) (g n : ℕ) → text ≡ front ++ first_lines S g n → text ++ page_line S g n ≡ front ++ first_lines S g (n + 1)

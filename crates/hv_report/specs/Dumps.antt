@@ -15,12 +15,12 @@ use Rattle.hv_load.specs.declared.start.Dump.{Dump}
 use Rattle.hv_text.specs.Text.{line, hex8}
 
 -- the bytes of word k of bare page g in the order of their addresses, which is little-endian
-abbrev pub bytes_of : List ℕ → ℕ → ℕ → List ℕ
-bytes_of S g k = to_le_bytes w32 (word_at S g k)
+abbrev pub dumped_bytes : List ℕ → ℕ → ℕ → List ℕ
+dumped_bytes S g k = to_le_bytes w32 (word_at S g k)
 
 -- the bytes of n words of bare page g from word k on
 unfoldable pub words_bytes : List ℕ → ℕ → ℕ → ℕ → List ℕ
-words_bytes S g k n = flat_map (bytes_of S g) (range_with_len k n)
+words_bytes S g k n = flat_map (dumped_bytes S g) (range_with_len k n)
 
 -- the 32 bytes of line k of bare page g
 abbrev pub line_bytes : List ℕ → ℕ → ℕ → List ℕ

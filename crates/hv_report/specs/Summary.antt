@@ -9,8 +9,8 @@ use Rattle.hv_text.specs.Text.{line, hex8}
 use Rattle.hv_report.specs.Report.{head_line, harts_text, machine_words, watch_line}
 
 -- the sum of x1 to x31 of a machine's 50 words, modulo 2 ^ 32
-abbrev pub sum_of : List ℕ → ℕ
-sum_of words = sum (part words 1 31) % 2 ^ 32
+abbrev pub checksum_of : List ℕ → ℕ
+checksum_of words = sum (part words 1 31) % 2 ^ 32
 
 -- the number of a job that was generated, and the depth of its tower
 abbrev pub number_line : ℕ → ℕ → List ℕ
@@ -18,7 +18,7 @@ number_line number depth = line (codes "gen " ++ decimal number ++ codes " depth
 
 -- a count, and the sum of a machine's registers
 abbrev pub sum_lines : ℕ → List ℕ → List ℕ
-sum_lines count words = line (codes "count " ++ decimal count) ++ line (codes "sum " ++ hex8 (sum_of words))
+sum_lines count words = line (codes "count " ++ decimal count) ++ line (codes "sum " ++ hex8 (checksum_of words))
 
 -- a watch: its line, its count, and the sum of its machine's registers
 abbrev pub summed_watch : State → WatchRecord → List ℕ

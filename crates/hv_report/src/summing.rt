@@ -2,7 +2,7 @@
 
 ghost use Rattle.std.specs.Prelude.{◌≡◌, ◌%◌, ◌^◌, ◌++◌, IfOk, OnOk, sum};
 ghost use Rattle.hv_report.specs.Report.{AreInState, IsInState};
-ghost use Rattle.hv_report.specs.Summary.{number_line, sum_lines, sum_of, summary_of, summed_watch, summed_watches};
+ghost use Rattle.hv_report.specs.Summary.{number_line, sum_lines, checksum_of, summary_of, summed_watch, summed_watches};
 
 use crate::machine::machine_words;
 use crate::reporting::{put_harts, put_head, put_watch_line};
@@ -81,7 +81,7 @@ fn put_sum_lines(out: &mut Vec<u8>, count: u64, words: &[u32; 50]) -> Result<(),
 
 // The sum of x1 to x31.
 fn sum_of_words(words: &[u32; 50]) -> u32
-    ensures { result ≡ sum_of words.now }
+    ensures { result ≡ checksum_of words.now }
 {
     wrapped_sum(&words[1..32])
 }

@@ -19,7 +19,7 @@ use Rattle.hv_block.specs.Block.{Contents, block_of, with_fault, access_word}
 use Rattle.hv_map.specs.Compose.{compose}
 use Rattle.hv_map.proofs.Handed.{composed_level}
 use Rattle.hv_nest.specs.Asks.{Ask, asks, refusal_through, refusal_at, refusal_of, first_refused}
-use Rattle.hv_nest.specs.Step.{Stepped, Worked, Recalled, Faulted, Barred, Machine, idle, interrupt_of, act_step, tell_of, put_back, malformed, child_step, child_through, child_at, next_step, step_on, step_of}
+use Rattle.hv_nest.specs.Step.{Stepped, Worked, Recalled, Faulted, Barred, Machine, idle, interrupt_of, act_step, tell_of, put_back, malformed, child_step, child_step_through, child_step_at, next_step, step_on, step_of}
 use Rattle.hv_nest.proofs.Refused.{first_refusal, act_refusal, act_refused}
 use Rattle.hv_nest.proofs.SimulatedAsks.{refused_level}
 
@@ -105,11 +105,11 @@ module _ (k : ℕ) where
         back_deep S j r g (deeper S (compose S F j contents.pages contents.table contents.version) (j + 1) 0 contents.regs)
         (deep S (compose S F j contents.pages contents.table contents.version) (j + 1) 0 contents.regs (omega (arith, low)) (composed_from k S F j contents.pages contents.table contents.version low from))
 
-    way_deep : (way : Way) → ((l c p : ℕ) (w : Option ℕ) → way ≡ Shut l c p w → k ≤ l) → PassesDeep k (child_through deeper S F j r way)
+    way_deep : (way : Way) → ((l c p : ℕ) (w : Option ℕ) → way ≡ Shut l c p w → k ≤ l) → PassesDeep k (child_step_through deeper S F j r way)
     way_deep (Open g) h = child_deep g (block_of S g)
     way_deep (Shut l c p w) h = inl (subst (λ (x : ℕ). k ≤ x) (sym (refused_level l c p w 0 Write)) (h l c p w refl))
 
-    at_deep : (o : Option Slot) → slice_get F r.next ≡ o → PassesDeep k (child_at deeper S F j r o)
+    at_deep : (o : Option Slot) → slice_get F r.next ≡ o → PassesDeep k (child_step_at deeper S F j r o)
     at_deep None is = inr (refl, refl)
     at_deep (Some slot) is = way_deep slot.write (λ l c p w e. from r.next slot Write l c p w is e)
 

@@ -11,7 +11,7 @@ use Rattle.hv_cpu.specs.Regs.{Regs, FitsHart, with_reg, reg}
 use Rattle.hv_csr.specs.Access.{is_barred, is_read_only, csr_read_of, write_at}
 use Rattle.hv_csr.specs.Interrupts.{pending_of}
 use Rattle.hv_csr.specs.Table.{sstatus_mask, ssi, merge, vector, status_of, row_of, csr_of}
-use Rattle.hv_csr.specs.Traps.{goes_down, cause_word, entry_of, entered_m, entered_s, take_trap_of, left_m, left_s, unprivileged, mret_of, sret_of, may_sret}
+use Rattle.hv_csr.specs.Traps.{goes_down, cause_word, handler_of, entered_m, entered_s, take_trap_of, left_m, left_s, unprivileged, mret_of, sret_of, may_sret}
 use Rattle.hv_csr.proofs.Merge.{merged_is, merged_inside, merged_mpp, cut_inside, cut_mpp, delegated_inside, ssi_inside, put_inside, put_mpp}
 use Rattle.hv_isa.specs.declared.Instr.{Instr}
 use Rattle.hv_isa.specs.declared.Op.{Op}
@@ -30,14 +30,14 @@ use Rattle.hv_sv32.specs.Stop.{Walked, Found, TrapWith, RefusedBy}
 use Rattle.hv_sv32.specs.Walk.{walk_of}
 use Rattle.hv_exec.specs.Arithmetic.{sum_of}
 use Rattle.hv_exec.specs.Answer.{Answer, Next, Trap, Load, Store, Enter, advanced, given, passed, at_target, jumped, branched}
-use Rattle.hv_exec.specs.Memory.{bytes_of, lane_at, loading, storing}
+use Rattle.hv_exec.specs.Memory.{width_bytes, lane_at, loading, storing}
 use Rattle.hv_exec.specs.System.{new_value, stored_csr, answered_csr, read_csr, csr_row, returned, entering}
 use Rattle.hv_exec.specs.Do.{row_answer, do_of}
 use Rattle.hv_exec.specs.Act.{Acted, Done, Refused, trapped, loaded, load_at, stored, store_at, entered, enter_page, enter_at, carried_out, decoded, fetched, fetch_at, act_of}
 use Rattle.hv_block.specs.Block.{Contents, block_of, with_fault, access_word}
 use Rattle.hv_limits.specs.Limits.{depth_limit}
 use Rattle.hv_map.specs.Compose.{compose}
-use Rattle.hv_nest.specs.Step.{Stepped, Worked, Recalled, Faulted, Barred, Machine, idle, interrupt_of, act_step, tell_of, put_back, malformed, child_step, child_through, child_at, next_step, step_on, step_of, host_step_of}
+use Rattle.hv_nest.specs.Step.{Stepped, Worked, Recalled, Faulted, Barred, Machine, idle, interrupt_of, act_step, tell_of, put_back, malformed, child_step, child_step_through, child_step_at, next_step, step_on, step_of, host_step_of}
 
 -- registers with another program counter, another general register, another next or another mstatus
 kept_pc : (r : Regs) (pc : ℕ) → pc % 4 ≡ 0 → FitsHart r → FitsHart (record r { pc = pc })
@@ -93,7 +93,7 @@ status_of_kept r k = record { inside = k.mstatus; mpp = k.mpp }
 on_four : (v : ℕ) → (v - v % 4) % 4 ≡ 0
 on_four v = omega arith
 
-entry_aligned : (v cause : ℕ) (interrupt : Bool) → entry_of v cause interrupt % 4 ≡ 0
+entry_aligned : (v cause : ℕ) (interrupt : Bool) → handler_of v cause interrupt % 4 ≡ 0
 entry_aligned v cause interrupt = by (interrupt && (v % 4 == 1))
   where
     by : (t : Bool) → cond t ((v - v % 4 + 4 * cause) % 4294967296) (v - v % 4) % 4 ≡ 0
@@ -120,8 +120,8 @@ kept_trap r cause interrupt tval k = by (goes_down r cause interrupt)
         (status_put r.mstatus 7 1 (field_of r.mstatus 3 1) (omega arith) refl refl s))
 
     by : (t : Bool) → FitsHart (cond t
-        (record r { pc = entry_of r.stvec cause interrupt; mode = 1; mstatus = entered_s r.mstatus r.mode; sepc = r.pc; scause = cause_word cause interrupt; stval = tval })
-        (record r { pc = entry_of r.mtvec cause interrupt; mode = 3; mstatus = entered_m r.mstatus r.mode; mepc = r.pc; mcause = cause_word cause interrupt; mtval = tval }))
+        (record r { pc = handler_of r.stvec cause interrupt; mode = 1; mstatus = entered_s r.mstatus r.mode; sepc = r.pc; scause = cause_word cause interrupt; stval = tval })
+        (record r { pc = handler_of r.mtvec cause interrupt; mode = 3; mstatus = entered_m r.mstatus r.mode; mepc = r.pc; mcause = cause_word cause interrupt; mtval = tval }))
     by true = record { aligned = entry_aligned r.stvec cause interrupt; mode_fits = omega arith; mode_real = λ e. omega (arith, e); mstatus = low.inside; mpp = low.mpp; mtvec = k.mtvec; mepc = k.mepc; medeleg = k.medeleg; mideleg = k.mideleg; mie = k.mie; mip = k.mip; stvec = k.stvec; sepc = k.aligned; satp = k.satp }
     by false = record { aligned = entry_aligned r.mtvec cause interrupt; mode_fits = omega arith; mode_real = λ e. omega (arith, e); mstatus = high.inside; mpp = high.mpp; mtvec = k.mtvec; mepc = k.aligned; medeleg = k.medeleg; mideleg = k.mideleg; mie = k.mie; mip = k.mip; stvec = k.stvec; sepc = k.sepc; satp = k.satp }
 
@@ -138,8 +138,8 @@ trap_next : (r : Regs) (cause : ℕ) (interrupt : Bool) (tval : ℕ) → (take_t
 trap_next r cause interrupt tval = by (goes_down r cause interrupt)
   where
     by : (t : Bool) → (cond t
-        (record r { pc = entry_of r.stvec cause interrupt; mode = 1; mstatus = entered_s r.mstatus r.mode; sepc = r.pc; scause = cause_word cause interrupt; stval = tval })
-        (record r { pc = entry_of r.mtvec cause interrupt; mode = 3; mstatus = entered_m r.mstatus r.mode; mepc = r.pc; mcause = cause_word cause interrupt; mtval = tval })).next ≡ r.next
+        (record r { pc = handler_of r.stvec cause interrupt; mode = 1; mstatus = entered_s r.mstatus r.mode; sepc = r.pc; scause = cause_word cause interrupt; stval = tval })
+        (record r { pc = handler_of r.mtvec cause interrupt; mode = 3; mstatus = entered_m r.mstatus r.mode; mepc = r.pc; mcause = cause_word cause interrupt; mtval = tval })).next ≡ r.next
     by true = refl
     by false = refl
 
@@ -332,7 +332,7 @@ module _ (n : ℕ) (r : Regs) (f : Fit n r) where
 
   fits_load : (address : ℕ) (width : _) (signed : Bool) (rd : ℕ) → AnswerFits n (loading address width signed rd)
   unfolding loading
-  fits_load address width signed rd = by (address % bytes_of width == 0)
+  fits_load address width signed rd = by (address % width_bytes width == 0)
     where
       by : (t : Bool) → AnswerFits n (cond t (Load address width signed rd) (Trap 4 address))
       by true = tt
@@ -340,7 +340,7 @@ module _ (n : ℕ) (r : Regs) (f : Fit n r) where
 
   fits_store : (address : ℕ) (width : _) (v : ℕ) → AnswerFits n (storing address width v)
   unfolding storing
-  fits_store address width v = by (address % bytes_of width == 0)
+  fits_store address width v = by (address % width_bytes width == 0)
     where
       by : (t : Bool) → AnswerFits n (cond t (Store address width v) (Trap 6 address))
       by true = tt
@@ -551,11 +551,11 @@ module _ (n : ℕ) (r : Regs) (f : Fit n r) where
     child_fits g None = told_fits S j g (malformed j r.next)
     child_fits g (Some contents) = back_fits S j g (deeper S (compose S F j contents.pages contents.table contents.version) (j + 1) 0 contents.regs)
 
-    through_fits : (way : Way) → StepFits n (child_through deeper S F j r way)
+    through_fits : (way : Way) → StepFits n (child_step_through deeper S F j r way)
     through_fits (Open g) = child_fits g (block_of S g)
     through_fits (Shut l c p w) = tt
 
-    at_fits : (o : Option Slot) → StepFits n (child_at deeper S F j r o)
+    at_fits : (o : Option Slot) → StepFits n (child_step_at deeper S F j r o)
     at_fits None = tt
     at_fits (Some slot) = through_fits slot.write
 

@@ -7,7 +7,7 @@ use Rattle.std.proofs.Math.Seq.{get_or-append_seam}
 use Rattle.std.specs.Option.{option_eq}
 use Rattle.hv_limits.specs.Limits.{depth_limit}
 use Rattle.hv_vmid.specs.Paths.{ids_limit, IsNumber, path_at, parent_path, child_path, IsNew, IsNumbered}
-use Rattle.hv_vmid.specs.Nodes.{same_node, node_at, with_node, paths_of, IsPlaced, IsKept}
+use Rattle.hv_vmid.specs.Nodes.{same_node, node_at, with_node, paths_of, IsPlaced, AreNodesKept}
 use Rattle.hv_vmid.specs.declared.ids.Node.{Node}
 
 same_parent : (o p : Option ℕ) → option_eq nat_eq o p ≡ true → o ≡ p
@@ -123,7 +123,7 @@ module _ (S : List (Option Node)) where
       ] in
       ap (λ (Q : List (List ℕ)). path_at Q k) step ∙ there ∙ sym grown ∙ ap (λ (Q : List (List ℕ)). child_path Q node.parent node.syllable) (sym step)
 
-module _ (S : List (Option Node)) (n : ℕ) (look : Node → Option ℕ) (K : IsKept S n look) where
+module _ (S : List (Option Node)) (n : ℕ) (look : Node → Option ℕ) (K : AreNodesKept S n look) where
   pub kept-length : length (paths_of S n) ≡ n
   kept-length = paths-length S n K.placed
 
@@ -205,7 +205,7 @@ module _ (S : List (Option Node)) (n : ℕ) (look : Node → Option ℕ) (K : Is
       }
 
 -- one node more, under the next key
-module _ (S T : List (Option Node)) (n : ℕ) (look more : Node → Option ℕ) (node : Node) (K : IsKept S n look) where
+module _ (S T : List (Option Node)) (n : ℕ) (look more : Node → Option ℕ) (node : Node) (K : AreNodesKept S n look) where
   pub added-paths : node_at T n ≡ Some node → ((k : ℕ) → k ≢ n → node_at T k ≡ node_at S k) → paths_of T (suc n) ≡ paths_of S n ++ child_path (paths_of S n) node.parent node.syllable ∷ []
   added-paths at others =
       paths-step T n node at
@@ -258,7 +258,7 @@ module _ (S T : List (Option Node)) (n : ℕ) (look more : Node → Option ℕ) 
         number-at : k ≡ n → IsNumber k node.parent
         number-at e = number-more n k node.parent earlier (omega (arith, e))
 
-    pub added-kept : n < ids_limit → IsNumber n node.parent → length (parent_path (paths_of S n) node.parent) < depth_limit → IsKept T (suc n) more
+    pub added-kept : n < ids_limit → IsNumber n node.parent → length (parent_path (paths_of S n) node.parent) < depth_limit → AreNodesKept T (suc n) more
     added-kept room earlier depth =
         let P = paths_of S n in
         let path = child_path P node.parent node.syllable in

@@ -3,7 +3,7 @@ use Rattle.std.proofs.Common.{◌≡◌, ℕ, ◌<◌, List, length, Option, Som
 use Rattle.std.proofs.lemmas.List.{length_push}
 use Rattle.hv_limits.specs.Limits.{depth_limit}
 use Rattle.hv_vmid.specs.Paths.{IsNumber, parent_path, child_path}
-use Rattle.hv_vmid.specs.Nodes.{node_at, paths_of, IsKept}
+use Rattle.hv_vmid.specs.Nodes.{node_at, paths_of, AreNodesKept}
 use Rattle.hv_vmid.specs.declared.ids.Node.{Node}
 use Rattle.hv_vmid.proofs.Numbering.{kept-earlier, kept-get, kept-length, kept-path}
 
@@ -13,7 +13,7 @@ pub record Stands (paths : List (List ℕ)) (id : ℕ) (node : Node) : Type 0 wh
   pub short : length (parent_path paths node.parent) < depth_limit
   pub is : slice_get paths id ≡ Some (child_path paths node.parent node.syllable)
 
-module _ (S : List (Option Node)) (n : ℕ) (look : Node → Option ℕ) (K : IsKept S n look) (paths : List (List ℕ)) (view : paths_of S n ≡ paths) (id : ℕ) (given : id < length paths) where
+module _ (S : List (Option Node)) (n : ℕ) (look : Node → Option ℕ) (K : AreNodesKept S n look) (paths : List (List ℕ)) (view : paths_of S n ≡ paths) (id : ℕ) (given : id < length paths) where
   below : id < n
   below = omega (arith, given, ap length view, kept-length S n look K)
 

@@ -32,7 +32,7 @@ pub record IsPlaced (slots : List (Option Node)) (k : ℕ) : Type 0 where
 
 -- Nodes stand under the first n keys, and nowhere else. Each is found at its key, and nothing else is found. No two of
 -- their paths are the same, and none is too long.
-pub record IsKept (slots : List (Option Node)) (n : ℕ) (number : Node → Option ℕ) : Type 0 where
+pub record AreNodesKept (slots : List (Option Node)) (n : ℕ) (number : Node → Option ℕ) : Type 0 where
   pub few : n ≤ ids_limit
   pub placed : (k : ℕ) → k < n → IsPlaced slots k
   pub vacant : (k : ℕ) → n ≤ k → node_at slots k ≡ None

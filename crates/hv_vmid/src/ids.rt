@@ -42,13 +42,13 @@ impl Model for Ids {
     ghost use Rattle.std.specs.Prelude.{ℕ, List};
     ghost use Rattle.slab.specs.Slab.{slab_len};
     ghost use Rattle.std.specs.HashMap as hash;
-    ghost use Rattle.hv_vmid.specs.Nodes.{paths_of, same_node, IsKept};
+    ghost use Rattle.hv_vmid.specs.Nodes.{paths_of, same_node, AreNodesKept};
 
     ghost Value = { List (List ℕ) };
 
     ghost view = { λ ids. paths_of ids.nodes.slots (slab_len ids.nodes) };
 
-    ghost invariant = { λ ids. IsKept ids.nodes.slots (slab_len ids.nodes) (hash.get same_node ids.numbers) };
+    ghost invariant = { λ ids. AreNodesKept ids.nodes.slots (slab_len ids.nodes) (hash.get same_node ids.numbers) };
 }
 
 /// The constant of the code is the number that the definitions speak of.

@@ -26,7 +26,7 @@ use Rattle.hv_block.specs.Block.{Contents, block_of, with_fault, access_word}
 use Rattle.hv_block.proofs.Words.{length-put_regs}
 use Rattle.hv_limits.specs.Limits.{depth_limit}
 use Rattle.hv_map.specs.Compose.{compose}
-use Rattle.hv_nest.specs.Step.{Stepped, Worked, Recalled, Faulted, Barred, Machine, idle, interrupt_of, act_step, tell_of, put_back, malformed, child_step, child_through, child_at, next_step, step_on, step_of, host_step_of}
+use Rattle.hv_nest.specs.Step.{Stepped, Worked, Recalled, Faulted, Barred, Machine, idle, interrupt_of, act_step, tell_of, put_back, malformed, child_step, child_step_through, child_step_at, next_step, step_on, step_of, host_step_of}
 use Rattle.hv_nest.specs.State.{State}
 use Rattle.hv_nest.specs.Move.{Move, StepOf, LinesOf, moved_by, moved_at, lined_at, state_after}
 
@@ -180,12 +180,12 @@ module _ (deeper : Machine) (long : IsLong deeper) (S : List ℕ) (F : List Slot
       back_long S j r g (deeper S (compose S F j contents.pages contents.table contents.version) (j + 1) 0 contents.regs)
       (long S (compose S F j contents.pages contents.table contents.version) (j + 1) 0 contents.regs)
 
-  through_long : (way : Way) → StepsLong S (child_through deeper S F j r way)
+  through_long : (way : Way) → StepsLong S (child_step_through deeper S F j r way)
   unfolding StepsLong
   through_long (Open g) = child_long g (block_of S g)
   through_long (Shut l c p w) = tt
 
-  at_long : (o : Option Slot) → StepsLong S (child_at deeper S F j r o)
+  at_long : (o : Option Slot) → StepsLong S (child_step_at deeper S F j r o)
   unfolding StepsLong
   at_long None = tt
   at_long (Some slot) = through_long slot.write

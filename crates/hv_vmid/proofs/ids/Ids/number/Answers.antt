@@ -2,12 +2,12 @@
 use Rattle.std.proofs.Common.{◌≡◌, ℕ, List, length, Option, Some, None, sym, ap, ◌∙◌, subst, MatchOption, slice_get}
 use Rattle.std.specs.HashMap as hash
 use Rattle.hv_vmid.specs.Paths.{IsNumber, child_path, IsNew, IsNumbered}
-use Rattle.hv_vmid.specs.Nodes.{same_node, paths_of, IsKept}
+use Rattle.hv_vmid.specs.Nodes.{same_node, paths_of, AreNodesKept}
 use Rattle.hv_vmid.specs.declared.ids.Node.{Node}
 use Rattle.hv_vmid.proofs.Numbering.{kept-found, kept-new, kept-length, kept-numbered}
 use Rattle.hv_vmid.proofs.ids.Ids.number.Goals as goal
 
-answered : (S : List (Option Node)) (n : ℕ) (look : Node → Option ℕ) (K : IsKept S n look) (node : Node) (paths : List (List ℕ)) (o : Option ℕ)
+answered : (S : List (Option Node)) (n : ℕ) (look : Node → Option ℕ) (K : AreNodesKept S n look) (node : Node) (paths : List (List ℕ)) (o : Option ℕ)
     → paths_of S n ≡ paths
     → IsNumber (length paths) node.parent
     → o ≡ look node

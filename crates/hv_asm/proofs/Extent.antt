@@ -6,7 +6,7 @@ use Rattle.std.proofs.lemmas.List.{length-replicate}
 use Rattle.hv_isa.specs.declared.Op.TheVariants as op
 use Rattle.hv_lex.specs.Lines.{lines_of}
 use Rattle.hv_asm.specs.Assembly.{asm_of, words_from, line_words, and_then, has_room, in_front, is_refused, place_of, repeats, worked_words}
-use Rattle.hv_asm.specs.Forms.{◌>>=◌, ranged, word_with}
+use Rattle.hv_asm.specs.Forms.{ranged, word_with}
 use Rattle.hv_asm.specs.Limits.{image_limit}
 use Rattle.hv_asm.specs.Operands.{Reading, Deed, Refused, Nothing, Work, read_of, size_of, size_with, space_of}
 use Rattle.hv_asm.specs.Rows.{address, number, register}
@@ -19,6 +19,7 @@ use Rattle.hv_asm.specs.declared.names.Operation.{Operation}
 use Rattle.hv_asm.specs.declared.names.Operation.TheVariants as does
 use Rattle.hv_asm.specs.declared.operands.Operand.{Operand}
 use Rattle.hv_asm.specs.declared.operands.Operand.TheVariants.{Name, Number}
+use Rattle.hv_lex.specs.Refusing.{◌>>=◌}
 
 abbrev Words : Type 0
 Words = Result (List ℕ) (ℕ × AsmKind)

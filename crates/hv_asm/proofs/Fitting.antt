@@ -6,12 +6,13 @@ use Rattle.hv_isa.specs.declared.Op.{Op}
 use Rattle.hv_isa.specs.declared.Instr.{Instr}
 use Rattle.hv_isa.specs.Table.{Shape, U, J, B, I, S, R, Shift, Csr, Pair, One, Whole, Fits, IsImmediate, row_of, spell}
 use Rattle.hv_asm.specs.Amounts.{within, within_signed, is_even, word_of}
-use Rattle.hv_asm.specs.Forms.{form_of, immediate_of, UsesRegisters, ranged, word_with, ◌>>=◌}
+use Rattle.hv_asm.specs.Forms.{form_of, immediate_of, UsesRegisters, ranged, word_with}
 use Rattle.hv_asm.specs.declared.AsmKind.{AsmKind}
 use Rattle.hv_asm.specs.declared.amounts.Amount.{Amount}
 use Rattle.hv_asm.specs.declared.amounts.Amount.TheVariants.{Plus, Minus}
 use Rattle.hv_asm.specs.declared.forms.Form.{Form}
 use Rattle.hv_asm.specs.declared.forms.Form.TheVariants.{Immediate, Load, CsrRegister, CsrNumber, Bare}
+use Rattle.hv_lex.specs.Refusing.{◌>>=◌}
 
 pub ranged_ok : (b : Bool) (n imm : ℕ) → ranged b n ≡ Ok imm → (b ≡ true) × (n ≡ imm)
 ranged_ok true n imm is = let e : n ≡ imm = cc in (refl, e)

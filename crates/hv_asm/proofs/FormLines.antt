@@ -13,7 +13,7 @@ use Rattle.hv_lex.specs.declared.Token.{Token}
 use Rattle.hv_lex.proofs.Parts.{Part, Said, Blank, CommaPart, OpenPart, ClosePart, Reads, Apart, AreParts, Shows, name_said, written, part_tokens, line_tokens, line_shows, line_unbroken}
 use Rattle.hv_asm.specs.Amounts.{amount_of, within, within_signed, is_even, word_of}
 use Rattle.hv_asm.specs.Assembly.{asm_of}
-use Rattle.hv_asm.specs.Forms.{◌>>=◌, form_of, ranged, immediate_of, word_with}
+use Rattle.hv_asm.specs.Forms.{form_of, ranged, immediate_of, word_with}
 use Rattle.hv_asm.specs.Operands.{Reading, Work, reading_of, deed_of, operands_of, operands_from, groups_of, operand_of, read_of, read_tokens, text_of}
 use Rattle.hv_asm.specs.Rows.{register_at, register, number, csr, target, form_word, registers_word, immediate_word, load_word, store_word, branch_word, jump_word, upper_word, csr_register_word, csr_number_word, small, sources_word, source_word, bare_word}
 use Rattle.hv_asm.specs.Names.{operation_of, register_of}
@@ -31,6 +31,7 @@ use Rattle.hv_asm.specs.declared.operands.Operand.{Operand}
 use Rattle.hv_asm.specs.declared.operands.Operand.TheVariants as operand
 use Rattle.hv_asm.proofs.Named.{op_reads}
 use Rattle.hv_asm.proofs.Written.{instr, line_word, row_words, row_read, word_is, operand_at, IsPlain, IsRegister, IsControlAs, IsControl, IsSigned, register_shown, csr_shown, behind_three, three, second, three_operands, three_read}
+use Rattle.hv_lex.specs.Refusing.{◌>>=◌}
 
 -- a label's place, by its name
 abbrev Find : Type 0

@@ -3,11 +3,11 @@ use Rattle.std.proofs.Common.{◌≡◌, ℕ, suc, ◌+◌, ◌<◌, ◌≤◌, 
 use Rattle.std.proofs.Common.{replicate}
 use Rattle.std.proofs.lemmas.List.{drop_all, replicate-append-replicate}
 use Rattle.hv_asm.specs.Emitted.{with_front}
-use Rattle.hv_asm.specs.Forms.{◌>>=◌}
 use Rattle.hv_asm.specs.Words.{value_at, values_of}
 use Rattle.hv_asm.specs.declared.AsmKind.{AsmKind}
 use Rattle.hv_asm.specs.declared.labels.Place.{Place}
 use Rattle.hv_asm.specs.declared.operands.Operand.{Operand}
+use Rattle.hv_lex.specs.Refusing.{◌>>=◌}
 
 fronted_ok : (front : List ℕ) (r : Result (List ℕ) AsmKind) (w : ℕ) (new : List ℕ) → new ≡ front ++ w ∷ [] → with_front front (r >>= λ ws. Ok (w ∷ ws)) ≡ with_front new r
 fronted_ok front (Ok ws) w new is = let e : front ++ (w ∷ ws) ≡ new ++ ws = rw (is, append_assoc) refl in ap (λ (l : List ℕ). let r : Result (List ℕ) AsmKind = Ok l in r) e

@@ -13,7 +13,7 @@ use Rattle.hv_lex.specs.declared.Kind.TheVariants.{Name, Number, Comma, Colon, O
 use Rattle.hv_lex.proofs.Parts.{Part, Said, Blank, CommaPart, Reads, AreParts, Unbroken, written, part_tokens, line_tokens, line_shows, one_line}
 use Rattle.hv_asm.specs.Amounts.{amount_of}
 use Rattle.hv_asm.specs.Assembly.{asm_of, words_from, line_words, place_of, has_room, and_then}
-use Rattle.hv_asm.specs.Forms.{◌>>=◌, form_of, immediate_of, word_with}
+use Rattle.hv_asm.specs.Forms.{form_of, immediate_of, word_with}
 use Rattle.hv_asm.specs.Names.{register_of, operation_of}
 use Rattle.hv_asm.specs.Operands.{Reading, Work, Nothing, read_of, read_tokens, reading_of, deed_of, operands_of, operands_from, groups_of, operand_of, size_with, size_of, text_of}
 use Rattle.hv_asm.specs.Rows.{register_at, register, csr, or_fault, form_word}
@@ -30,6 +30,7 @@ use Rattle.hv_asm.specs.declared.operands.Operand.{Operand}
 use Rattle.hv_asm.specs.declared.operands.Operand.TheVariants as operand
 use Rattle.hv_asm.proofs.Naming.{operation_again}
 use Rattle.hv_asm.proofs.Telling.{Answer}
+use Rattle.hv_lex.specs.Refusing.{◌>>=◌}
 
 -- the answers to a line
 abbrev Word : Type 0

@@ -2,13 +2,13 @@
 use Rattle.std.specs.Prelude.{ℕ, ◌+◌, ◌^◌, ◌&&◌, nat_lt, nat_le, List, [], ◌∷◌, ◌++◌, Bool, true, false, if◌then◌else◌, Option, Some, None, Result, Ok, Err}
 use Rattle.std.specs.Str.{bytes_eq}
 use Rattle.hv_lex.specs.Lines.{lines_of}
-use Rattle.hv_asm.specs.Forms.{◌>>=◌}
 use Rattle.hv_asm.specs.Limits.{image_limit}
 use Rattle.hv_asm.specs.Operands.{Reading, Deed, Refused, Nothing, Work, read_of, size_of}
 use Rattle.hv_asm.specs.Words.{words_with}
 use Rattle.hv_asm.specs.declared.AsmKind.{AsmKind}
 use Rattle.hv_asm.specs.declared.AsmKind.TheVariants as fault
 use Rattle.hv_asm.specs.declared.labels.Place.{Place}
+use Rattle.hv_lex.specs.Refusing.{◌>>=◌}
 
 -- the name that a line defines, if it defines one, is this
 abbrev pub is_label : List ℕ → Option (List ℕ) → Bool

@@ -8,13 +8,7 @@ use Rattle.hv_asm.specs.declared.AsmKind.TheVariants as fault
 use Rattle.hv_asm.specs.declared.amounts.Amount.{Amount}
 use Rattle.hv_asm.specs.declared.forms.Form.{Form}
 use Rattle.hv_asm.specs.declared.forms.Form.TheVariants.{Registers, Immediate, ShiftAmount, Load, Store, Branch, Jump, Upper, CsrRegister, CsrNumber, Sources, Source, Bare}
-
--- what follows where nothing was refused
-infixl 10 ◌>>=◌
--- what f makes of a result, or its refusal
-abbrev pub ◌>>=◌ : {A B : Type 0} → Result A AsmKind → (A → Result B AsmKind) → Result B AsmKind
-(Ok x) >>= f = f x
-(Err e) >>= f = Err e
+use Rattle.hv_lex.specs.Refusing.{◌>>=◌}
 
 -- the form of a row of the instruction table
 abbrev pub form_of : Shape → Form

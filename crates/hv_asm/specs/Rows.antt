@@ -6,7 +6,7 @@ use Rattle.hv_isa.specs.declared.Op.{Op}
 use Rattle.hv_isa.specs.declared.Op.TheVariants as op
 use Rattle.hv_lex.specs.declared.Token.{Token}
 use Rattle.hv_asm.specs.Amounts.{distance, within, word_of}
-use Rattle.hv_asm.specs.Forms.{◌>>=◌, form_of, ranged, word_with}
+use Rattle.hv_asm.specs.Forms.{form_of, ranged, word_with}
 use Rattle.hv_asm.specs.Names.{register_of}
 use Rattle.hv_asm.specs.Operands.{text_of}
 use Rattle.hv_asm.specs.declared.AsmKind.{AsmKind}
@@ -18,6 +18,7 @@ use Rattle.hv_asm.specs.declared.forms.Form.TheVariants as form
 use Rattle.hv_asm.specs.declared.labels.Place.{Place}
 use Rattle.hv_asm.specs.declared.operands.Operand.{Operand}
 use Rattle.hv_asm.specs.declared.operands.Operand.TheVariants.{Name, Number, Based}
+use Rattle.hv_lex.specs.Refusing.{◌>>=◌}
 
 -- what is there, or a refusal
 abbrev pub or_fault : {A : Type 0} → AsmKind → Option A → Result A AsmKind

@@ -4,7 +4,7 @@ use Rattle.std.specs.List.{list_all}
 use Rattle.hv_isa.specs.declared.Op.{Op}
 use Rattle.hv_isa.specs.declared.Op.TheVariants as op
 use Rattle.hv_asm.specs.Amounts.{word_of}
-use Rattle.hv_asm.specs.Forms.{◌>>=◌, ranged, word_with}
+use Rattle.hv_asm.specs.Forms.{ranged, word_with}
 use Rattle.hv_asm.specs.Limits.{space_limit}
 use Rattle.hv_asm.specs.Operands.{text_of}
 use Rattle.hv_asm.specs.Rows.{address, csr, number, plain_jump_word, register, row_word, zero_word}
@@ -17,6 +17,7 @@ use Rattle.hv_asm.specs.declared.names.Operation.{Operation}
 use Rattle.hv_asm.specs.declared.names.Operation.TheVariants as does
 use Rattle.hv_asm.specs.declared.operands.Operand.{Operand}
 use Rattle.hv_asm.specs.declared.operands.Operand.TheVariants.{Name, Number, Based}
+use Rattle.hv_lex.specs.Refusing.{◌>>=◌}
 
 -- a word given by a number, from -2 ^ 31 to 2 ^ 32 - 1
 unfoldable pub value : Amount → Result ℕ AsmKind

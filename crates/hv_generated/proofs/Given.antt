@@ -3,8 +3,8 @@ use Rattle.std.proofs.Common.{◌≡◌, ℕ, zero, suc, ◌+◌, ◌*◌, ◌/�
 use Rattle.std.specs.List.{range_with_len}
 use Rattle.std.proofs.lemmas.Bool.{true≢false}
 use Rattle.hv_load.specs.declared.ends.BuildKind.{BuildKind}
-use Rattle.hv_load.specs.Building.{◌>>=◌}
 use Rattle.hv_load.specs.Pages.{each_from, place_by}
+use Rattle.hv_lex.specs.Refusing.{◌>>=◌}
 
 pub not_refused : {B : Type 0} (c : Bool) (why : BuildKind) (r : Result B BuildKind) (y : B) → c ≡ false → r ≡ Ok y → cond c (Err why) r ≡ Ok y
 not_refused true why r y test is = absurd (true≢false test)

@@ -14,8 +14,8 @@ use Rattle.hv_samples.specs.declared.choice.Sample.TheVariants.{Pass}
 use Rattle.hv_load.specs.declared.ends.BuildKind.{BuildKind}
 use Rattle.hv_load.specs.declared.ends.BuildKind.TheVariants as kind
 use Rattle.hv_load.specs.declared.start.Start.{Start}
-use Rattle.hv_load.specs.Building.{◌>>=◌, Building, known, nothing_built}
-use Rattle.hv_load.specs.Build.{and_then, at_line, build_of, built_from, can_watch, done_of, end_of, start_of, towered_of, unless_fault, watch_fault}
+use Rattle.hv_load.specs.Building.{Building, known, nothing_built}
+use Rattle.hv_load.specs.Build.{build_of, built_from, can_watch, done_of, end_of, start_of, towered_of, unless_fault, watch_fault}
 use Rattle.hv_load.specs.Directives.{image_of, is_shared, watch_in, watch_of}
 use Rattle.hv_load.specs.Generator.{depths, gen_job_of, job_with, kernel_line, kernel_of, schedule_of, tower_line, turn_line, turn_lines, watch_line}
 use Rattle.hv_load.specs.Tower.{grown}
@@ -29,11 +29,12 @@ use Rattle.hv_generated.specs.Fitting.{GeneratedBuildLaw}
 use Rattle.hv_generated.proofs.Given.{allowed, goes_on, not_refused}
 use Rattle.hv_generated.proofs.Parts.{Filled, image_written}
 use Rattle.hv_generated.proofs.Fitted.{Tower, tower}
+use Rattle.hv_lex.specs.Refusing.{◌>>=◌, at_line}
 
 -- one line that is done, and the turns, which change nothing
 line_done : (b next : Building) (p : Placed) (lines : List Placed) → done_of b p.line p.what ≡ Ok next → built_from b (p ∷ lines) ≡ built_from next lines
 unfolding built_from
-line_done b next p lines is = ap (λ (r : Result Building BuildKind). and_then (at_line p.line r) (λ next. built_from next lines)) is
+line_done b next p lines is = ap (λ (r : Result Building BuildKind). ((at_line p.line r) >>= (λ next. built_from next lines))) is
 
 turns_done : (b : Building) → length b.harts ≡ 1 → (a n : ℕ) (rest : List Placed) → built_from b (map turn_line (range_with_len a n) ++ rest) ≡ built_from b rest
 turns_done b one a zero rest = refl
@@ -82,10 +83,10 @@ module _ (P : ℕ) (ns : List ℕ) (b : Building) (few : P ≤ pages_limit) (s :
       ∙ ap (λ (c : Bool). let o : Option ℕ = cond c None (Some line) in o) watchable
 
   -- and then the job is built
-  pub last_lines : (turns : List Placed → List Placed) → ((rest : List Placed) → built_from b (turns rest) ≡ built_from b rest) → (p : Placed) → done_of b p.line p.what ≡ watch_of b line 0 (codes "top") → and_then (built_from b (turns (p ∷ []))) (end_of []) ≡ Ok (start_of watched)
+  pub last_lines : (turns : List Placed → List Placed) → ((rest : List Placed) → built_from b (turns rest) ≡ built_from b rest) → (p : Placed) → done_of b p.line p.what ≡ watch_of b line 0 (codes "top") → ((built_from b (turns (p ∷ []))) >>= (end_of [])) ≡ Ok (start_of watched)
   unfolding built_from
   last_lines turns pass p is =
-      ap (λ (r : Result Building (ℕ × BuildKind)). and_then r (end_of [])) (pass (p ∷ []) ∙ line_done b watched p [] (is ∙ watch_done))
+      ap (λ (r : Result Building (ℕ × BuildKind)). (r >>= (end_of []))) (pass (p ∷ []) ∙ line_done b watched p [] (is ∙ watch_done))
       ∙ ap (unless_fault watched) no_fault
 
 last_some : (P top depth : ℕ) → 1 ≤ P → 1 ≤ top → 1 ≤ last_size P top depth
@@ -120,7 +121,7 @@ job_built depth kernel schedule short few =
         let did : Did 28 t.ns t.after f.0 _ _ = done 28 t.ns (omega arith) t.after f.0 t.stands 4 (kernel_line kernel).what refl f.1 in
         let one : length f.0.harts ≡ 1 = ap length did.stands.harts in (
           _,
-          ap (λ (r : Result Building (ℕ × BuildKind)). and_then r (end_of []))
+          ap (λ (r : Result Building (ℕ × BuildKind)). (r >>= (end_of [])))
               (line_done (nothing_built 28 1) t.after (tower_line depth) (kernel_line kernel ∷ turn_lines turns ++ watch_line turns ∷ []) t.is
               ∙ line_done t.after f.0 (kernel_line kernel) (turn_lines turns ++ watch_line turns ∷ []) f.1)
               ∙ last_lines 28 t.ns f.0 (omega arith) did.stands t.room (f.2.watches ∙ t.watches) (518 + turns) (λ rest. turn_lines turns ++ rest) (turns_done f.0 one 0 turns) (watch_line turns) refl,

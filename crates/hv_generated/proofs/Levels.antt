@@ -8,7 +8,7 @@ use Rattle.hv_map.specs.Chain.{map_of}
 use Rattle.hv_job.specs.declared.job.Placed.{Placed}
 use Rattle.hv_samples.specs.declared.choice.Sample.TheVariants.{Pass}
 use Rattle.hv_load.specs.declared.ends.BuildKind.{BuildKind}
-use Rattle.hv_load.specs.Building.{◌>>=◌, Building, named}
+use Rattle.hv_load.specs.Building.{Building, named}
 use Rattle.hv_load.specs.Build.{parts_of}
 use Rattle.hv_load.specs.Directives.{image_of, machine_of}
 use Rattle.hv_load.specs.Pages.{free_at}
@@ -23,6 +23,7 @@ use Rattle.hv_towers.proofs.Rising.{last_size}
 use Rattle.hv_towers.proofs.Tables.{length-machine, machine_other}
 use Rattle.hv_generated.proofs.Marks.{run_kept}
 use Rattle.hv_generated.proofs.Parts.{Filled, image_written, machine_at, machine_made}
+use Rattle.hv_lex.specs.Refusing.{◌>>=◌}
 
 -- A tower of some levels: the bare pages behind its monitors were given to nothing, and no further level has its name.
 pub record Fresh (P : ℕ) (b : Building) (ms : List ℕ) : Type 0 where

@@ -9,7 +9,7 @@ use Rattle.hv_map.specs.Chain.{map_of}
 use Rattle.hv_limits.specs.Limits.{depth_limit}
 use Rattle.hv_load.specs.declared.ends.BuildKind.{BuildKind}
 use Rattle.hv_load.specs.declared.ends.BuildKind.TheVariants as kind
-use Rattle.hv_load.specs.Building.{◌>>=◌, Building, Known, known, named}
+use Rattle.hv_load.specs.Building.{Building, Known, known, named}
 use Rattle.hv_line.specs.JobLimits.{job_machines}
 use Rattle.hv_load.specs.Directives.{image_in, image_of, is_outside, machine_of, made_in, pages_along, with_made}
 use Rattle.hv_load.specs.Making.{can_take}
@@ -18,6 +18,7 @@ use Rattle.hv_towers.specs.Laid.{from_base}
 use Rattle.hv_towers.proofs.Bases.{base_slot}
 use Rattle.hv_generated.proofs.Given.{allowed, each_found, goes_on, not_refused, place_found}
 use Rattle.hv_generated.proofs.Marks.{can_take_run, places_kept}
+use Rattle.hv_lex.specs.Refusing.{◌>>=◌}
 
 writes_at : (base n i : ℕ) → i < n → writes_in (Some (from_base base n)) i ≡ Ok (base + i)
 writes_at base n i lt = ap written_at (base_slot base n i lt)

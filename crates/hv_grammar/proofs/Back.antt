@@ -13,7 +13,6 @@ use Rattle.hv_samples.specs.declared.choice.Sample.{Sample}
 use Rattle.hv_line.specs.Commands.{command_of, join_words_of}
 use Rattle.hv_line.specs.JobLimits.{job_breaks, job_commands, job_harts}
 use Rattle.hv_line.specs.Lines.{begins_with, has_words, is_allowed, is_header, words_of}
-use Rattle.hv_line.specs.Statements.{◌>>=◌}
 use Rattle.hv_line.specs.declared.kinds.JobKind.{JobKind}
 use Rattle.hv_line.specs.declared.kinds.JobKind.TheVariants as fault
 use Rattle.hv_line.specs.declared.types.DebugCommand.{DebugCommand}
@@ -21,7 +20,7 @@ use Rattle.hv_line.specs.declared.types.Directive.{Directive}
 use Rattle.hv_line.specs.declared.types.Directive.TheVariants as directive
 use Rattle.hv_job.specs.Commands.{commands_from, commands_then, commands_with, is_over, line_commands, new_commands}
 use Rattle.hv_job.specs.IsJob.{breaks_in}
-use Rattle.hv_job.specs.JobOf.{and_then, at_line, before_end, begins_image, behind_storage, body_from, directive_with, draft_of, event_with, harts_with, header_from, image_lines_with, image_of, image_with, image_words, is_debug, job_in, job_of, job_with, line_with, lines_with, sample_with, schedule_with, storage_from, words_with}
+use Rattle.hv_job.specs.JobOf.{before_end, begins_image, behind_storage, body_from, directive_with, draft_of, event_with, harts_with, header_from, image_lines_with, image_of, image_with, image_words, is_debug, job_in, job_of, job_with, line_with, lines_with, sample_with, schedule_with, storage_from, words_with}
 use Rattle.hv_job.specs.declared.job.DebugLine.{DebugLine as Command}
 use Rattle.hv_job.specs.declared.job.Job.{Job}
 use Rattle.hv_grammar.specs.Forms.{Form, IsInRange, IsLine, Harts, Image, Sampled, Turn, Lines}
@@ -38,6 +37,7 @@ use Rattle.hv_grammar.proofs.Saying.{SaidWay, inner_is, said_way}
 use Rattle.hv_grammar.proofs.Telling.{SaysThis, Told, does_says, harts_count, place_in, skipped as tells_nothing}
 use Rattle.hv_grammar.proofs.Through.{AreCommands, IsBehind, accepted, body_good, commanded, debugged, nothing_behind, skipped, told_step}
 use Rattle.hv_grammar.proofs.Ways.{IsBlank, ends_at, goes_not, is_debugged, is_ended, not_begun, not_debug, some_call, some_pages, some_words}
+use Rattle.hv_lex.specs.Refusing.{◌>>=◌, at_line}
 
 -- the commands
 abbrev CommandsRead : List Command → ℕ → List (List ℕ) → List Said → Type 0
@@ -221,8 +221,8 @@ module _ (line : List ℕ) (lines : List (List ℕ)) (says : List Said) (to : Pl
   line_read said next image other begins made told rest = record {
     job = rest.job;
     is =
-        ap (λ b. cond b (job_with draft (commands_from [] (n + 1) lines)) (and_then (line_with draft n line lines) (λ next. body_from next (begins_image line) (n + 1) lines))) other
-        ∙ ap (λ r. and_then r (λ next. body_from next (begins_image line) (n + 1) lines)) made
+        ap (λ b. cond b (job_with draft (commands_from [] (n + 1) lines)) ((line_with draft n line lines) >>= (λ next. body_from next (begins_image line) (n + 1) lines))) other
+        ∙ ap (λ r. (r >>= (λ next. body_from next (begins_image line) (n + 1) lines))) made
         ∙ ap (λ b. body_from next b (n + 1) lines) begins ∙ rest.is;
     behind = told_step line lines (body_good lines) draft n image next said told rest.job says rest.behind;
   }
@@ -252,7 +252,7 @@ module _ (line : List ℕ) (lines : List (List ℕ)) (says : List Said) (to : Pl
   debug_read allowed alone rest = record {
     job = job_in draft rest.0;
     is =
-        ap (λ b. cond b (job_with draft (commands_from [] (n + 1) lines)) (and_then (line_with draft n line lines) (λ next. body_from next (begins_image line) (n + 1) lines))) (is_debugged line allowed alone)
+        ap (λ b. cond b (job_with draft (commands_from [] (n + 1) lines)) ((line_with draft n line lines) >>= (λ next. body_from next (begins_image line) (n + 1) lines))) (is_debugged line allowed alone)
         ∙ ap (job_with draft) rest.1;
     behind = debugged draft n line lines rest.0 says rest.2;
   }

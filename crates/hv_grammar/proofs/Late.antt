@@ -9,10 +9,10 @@ use Rattle.hv_irq.specs.declared.PushEnd.{PushEnd}
 use Rattle.hv_irq.specs.declared.PushEnd.TheVariants as pushed
 use Rattle.hv_lex.specs.Lines.{lines_of}
 use Rattle.hv_samples.specs.Samples.{sample_text}
-use Rattle.hv_line.specs.Statements.{◌>>=◌, statement_of}
+use Rattle.hv_line.specs.Statements.{statement_of}
 use Rattle.hv_line.specs.Commands.{join_words_of}
 use Rattle.hv_job.specs.Commands.{line_commands, commands_from, commands_then, commands_with, new_commands, is_over}
-use Rattle.hv_job.specs.JobOf.{and_then, asm_kind, at_line, before_end, begins_image, body_from, draft_of, event_with, schedule_with, harts_with, header_from, image_lines_with, image_of, image_with, image_words, is_debug, is_end, is_image, is_many, lines_with, job_of, job_with, line_with, directive_with, push_kind, sample_with, storage_from, behind_storage, words_with}
+use Rattle.hv_job.specs.JobOf.{asm_kind, before_end, begins_image, body_from, draft_of, event_with, schedule_with, harts_with, header_from, image_lines_with, image_of, image_with, image_words, is_debug, is_end, is_image, is_many, lines_with, job_of, job_with, line_with, directive_with, push_kind, sample_with, storage_from, behind_storage, words_with}
 use Rattle.hv_line.specs.Lines.{begins_with, has_words, is_allowed, is_header, words_of}
 use Rattle.hv_line.specs.declared.kinds.JobKind.{JobKind}
 use Rattle.hv_line.specs.declared.kinds.JobKind.TheVariants as fault
@@ -31,6 +31,7 @@ use Rattle.hv_grammar.proofs.Inside.{Ends}
 use Rattle.hv_grammar.proofs.Means.{form_means, is_image_form, storage_means}
 use Rattle.hv_grammar.proofs.Telling.{image_form, place_in}
 use Rattle.hv_grammar.proofs.Ways.{IsBlank, Way, ends_at, goes_not, is_debugged, is_ended, not_begun, not_debug, some_call, some_pages, some_words, way}
+use Rattle.hv_lex.specs.Refusing.{◌>>=◌, at_line}
 
 -- what is refused is refused late
 abbrev Late : {A : Type 0} → Result A (ℕ × JobKind) → Type 0
@@ -178,7 +179,7 @@ module _ (draft : Draft) (n : ℕ) (line : List ℕ) (lines : List (List ℕ)) w
   unfolding begins_image statement_of
   blank_begins none = ap (λ words. is_image (statement_of words)) none
 
-and_late : (r : Result Draft (ℕ × JobKind)) (f : Draft → Result Job (ℕ × JobKind)) → Late r → ((next : Draft) → Late (f next)) → Late (and_then r f)
+and_late : (r : Result Draft (ℕ × JobKind)) (f : Draft → Result Job (ℕ × JobKind)) → Late r → ((next : Draft) → Late (f next)) → Late (r >>= f)
 and_late (Ok next) f late rest = rest next
 and_late (Err refusal) f late rest = late
 
@@ -204,13 +205,13 @@ module _ (line : List ℕ) (lines : List (List ℕ)) (rest : Going lines) (says 
       subst (λ b. Late (body_from draft (not b) (n + 1) lines)) (sym (is_ended line w.1))
       (rest says to draft false (n + 1) over (subst (λ (p : Place). GoesOn p lines says to) w.2 on))
 
-  goes_late : (image : Bool) → is_debug line ≡ false → begins_image line ≡ image → Late (line_with draft n line lines) → GoesOn (place_in image) lines says to → Late (cond (is_debug line) (job_with draft (commands_from [] (n + 1) lines)) (and_then (line_with draft n line lines) (λ next. body_from next (begins_image line) (n + 1) lines)))
+  goes_late : (image : Bool) → is_debug line ≡ false → begins_image line ≡ image → Late (line_with draft n line lines) → GoesOn (place_in image) lines says to → Late (cond (is_debug line) (job_with draft (commands_from [] (n + 1) lines)) ((line_with draft n line lines) >>= (λ next. body_from next (begins_image line) (n + 1) lines)))
   goes_late image other begins late on =
       no_first {A = Result Job (ℕ × JobKind)} Late (is_debug line) _ _ other
       (and_late (line_with draft n line lines) _ late (λ next.
       subst (λ b. Late (body_from next b (n + 1) lines)) (sym begins) (rest says to next image (n + 1) over on)))
 
-  directive_late : (next : Place) → Way AmongDirectives line next → GoesOn next lines says to → Late (cond (is_debug line) (job_with draft (commands_from [] (n + 1) lines)) (and_then (line_with draft n line lines) (λ next. body_from next (begins_image line) (n + 1) lines)))
+  directive_late : (next : Place) → Way AmongDirectives line next → GoesOn next lines says to → Late (cond (is_debug line) (job_with draft (commands_from [] (n + 1) lines)) ((line_with draft n line lines) >>= (λ next. body_from next (begins_image line) (n + 1) lines)))
   directive_late next (inl w) on =
       goes_late false (blank_not_debug line w.0.1) (blank_begins draft n line lines w.0.1) (blank_late draft n line lines w.0) (subst (λ (p : Place). GoesOn p lines says to) w.1 on)
   directive_late next (inr (inl w)) on =

@@ -10,7 +10,7 @@ use Rattle.hv_irq.specs.declared.PushEnd.{PushEnd}
 use Rattle.hv_samples.specs.Samples.{sample_text}
 use Rattle.hv_samples.specs.declared.choice.Sample.{Sample}
 use Rattle.hv_line.specs.Statements.{statement_of}
-use Rattle.hv_job.specs.JobOf.{at_line, before_end, begins_image, event_directive, event_with, schedule_with, harts_with, image_lines_with, image_of, image_with, image_words, is_end, is_image, is_many, line_with, lines_with, directive_with, sample_with, words_with}
+use Rattle.hv_job.specs.JobOf.{before_end, begins_image, event_directive, event_with, schedule_with, harts_with, image_lines_with, image_of, image_with, image_words, is_end, is_image, is_many, line_with, lines_with, directive_with, sample_with, words_with}
 use Rattle.hv_line.specs.Lines.{begins_with, has_words, is_allowed, words_of}
 use Rattle.hv_line.specs.declared.kinds.JobKind.{JobKind}
 use Rattle.hv_line.specs.declared.kinds.JobKind.TheVariants as fault
@@ -26,6 +26,7 @@ use Rattle.hv_grammar.proofs.Formed.{Formed, words_formed}
 use Rattle.hv_grammar.proofs.Inside.{Ends, before_few, image_at, inner_goes}
 use Rattle.hv_grammar.proofs.Means.{form_means, is_image_form}
 use Rattle.hv_grammar.proofs.Steps.{Stops, by_result, by_test, no_words, stops, unless}
+use Rattle.hv_lex.specs.Refusing.{at_line}
 
 -- where the lines behind a line stand
 abbrev pub place_in : Bool → Place

@@ -8,12 +8,13 @@ use Rattle.hv_samples.specs.declared.choice.Sample.{Sample}
 use Rattle.hv_samples.specs.declared.choice.Sample.TheVariants.{Pass, Slicer, Forward, Pager}
 use Rattle.hv_limits.specs.Limits.{lines_mask}
 use Rattle.hv_line.specs.JobLimits.{job_harts}
-use Rattle.hv_line.specs.Statements.{◌>>=◌, access, address, any_sample, between, fixed, hart, inner, later_page, mask, named, number, numbers, or_no_name, or_no_number, page}
+use Rattle.hv_line.specs.Statements.{access, address, any_sample, between, fixed, hart, inner, later_page, mask, named, number, numbers, or_no_name, or_no_number, page}
 use Rattle.hv_line.specs.Names.{is_name, name_of}
 use Rattle.hv_line.specs.declared.kinds.JobKind.{JobKind}
 use Rattle.hv_line.specs.declared.kinds.JobKind.TheVariants as fault
 use Rattle.hv_line.proofs.Ranging.{then_ok}
 use Rattle.hv_grammar.specs.Forms.{AreWords, Spelt, Word, sample_word}
+use Rattle.hv_lex.specs.Refusing.{◌>>=◌}
 
 -- a test that is passed, and then the next
 pub then_is : {A B : Type 0} (r : Result A JobKind) (f : A → Result B JobKind) (v : A) (x : Result B JobKind) → r ≡ Ok v → f v ≡ x → (r >>= f) ≡ x

@@ -4,7 +4,7 @@ use Rattle.hv_lex.specs.Lines.{lines_of}
 use Rattle.hv_line.specs.Statements.{storage_line_of}
 use Rattle.hv_line.specs.Commands.{command_of, join_words_of}
 use Rattle.hv_job.specs.Commands.{line_commands, commands_from, commands_then, commands_with, new_commands, is_over}
-use Rattle.hv_job.specs.JobOf.{and_then, before_end, begins_image, body_from, draft_of, header_from, is_debug, is_end, job_in, job_of, job_with, line_with, storage_from, behind_storage}
+use Rattle.hv_job.specs.JobOf.{before_end, begins_image, body_from, draft_of, header_from, is_debug, is_end, job_in, job_of, job_with, line_with, storage_from, behind_storage}
 use Rattle.hv_line.specs.Lines.{has_words, is_allowed, is_header, words_of}
 use Rattle.hv_line.specs.declared.kinds.JobKind.{JobKind}
 use Rattle.hv_line.specs.declared.kinds.JobKind.TheVariants as fault
@@ -22,6 +22,7 @@ use Rattle.hv_grammar.proofs.Steps.{Good, Stops, Whole, by_result, by_test, debu
 use Rattle.hv_grammar.specs.Within.{IsWithinLimits, harts_lines}
 use Rattle.hv_job.proofs.Limiting.{IsReadJob, text_is}
 use Rattle.hv_grammar.proofs.Telling.{Says, Told, harts_count, line_says, or_first, place_in}
+use Rattle.hv_lex.specs.Refusing.{◌>>=◌}
 
 -- The commands: nothing else is said among them.
 pub record AreCommands (commands : List Command) (n : ℕ) (all : List Command) (says : List Said) : Type 0 where
@@ -207,7 +208,7 @@ module _ (line : List ℕ) (lines : List (List ℕ)) (rest : Going lines) (draft
         inner = λ inside. cc;
       }
 
-  said : (r : Result Draft (ℕ × JobKind)) → Says draft n line lines (begins_image line) r → Good AmongDirectives n (line ∷ lines) (IsBehind draft false (line ∷ lines) n) (and_then r (λ next. body_from next (begins_image line) (n + 1) lines))
+  said : (r : Result Draft (ℕ × JobKind)) → Says draft n line lines (begins_image line) r → Good AmongDirectives n (line ∷ lines) (IsBehind draft false (line ∷ lines) n) (r >>= (λ next. body_from next (begins_image line) (n + 1) lines))
   said (Ok next) (it, t) =
       step AmongDirectives (place_in (begins_image line)) n line lines it (IsBehind draft false (line ∷ lines) n) (IsBehind next (begins_image line) lines (n + 1)) t.goes (told_step (begins_image line) next it t) (body_from next (begins_image line) (n + 1) lines) (rest next (begins_image line) (n + 1) t.ends)
   said (Err refusal) stop = stop
@@ -223,7 +224,7 @@ module _ (line : List ℕ) (lines : List (List ℕ)) (rest : Going lines) (draft
   debug_step allowed is (Err refusal) stop =
       step {A = Job} AmongDirectives AmongCommands n line lines Nothing (λ job says. Unit {0}) (λ job says. Unit {0}) (DebugLine allowed is) (λ job says u. tt) (Err refusal) stop
 
-  directive_step : Good AmongDirectives n (line ∷ lines) (IsBehind draft false (line ∷ lines) n) (cond (is_debug line) (job_with draft (commands_from [] (n + 1) lines)) (and_then (line_with draft n line lines) (λ next. body_from next (begins_image line) (n + 1) lines)))
+  directive_step : Good AmongDirectives n (line ∷ lines) (IsBehind draft false (line ∷ lines) n) (cond (is_debug line) (job_with draft (commands_from [] (n + 1) lines)) ((line_with draft n line lines) >>= (λ next. body_from next (begins_image line) (n + 1) lines)))
   directive_step =
       by_test (λ (r : Result Job (ℕ × JobKind)). Good AmongDirectives n (line ∷ lines) (IsBehind draft false (line ∷ lines) n) r) (is_debug line) _ _
       (λ debug. let d = debug_says line debug in debug_step d.1 d.0 (commands_from [] (n + 1) lines) (commands_good lines (n + 1) []))

@@ -6,7 +6,6 @@ use Rattle.hv_line.specs.Commands.{command_of, join_words_of}
 use Rattle.hv_line.specs.JobLimits.{job_breaks, job_commands}
 use Rattle.hv_line.specs.Lines.{has_words, is_allowed, words_of}
 use Rattle.hv_line.specs.Ranges.{IsCommand}
-use Rattle.hv_line.specs.Statements.{◌>>=◌}
 use Rattle.hv_line.specs.declared.kinds.JobKind.{JobKind}
 use Rattle.hv_line.specs.declared.kinds.JobKind.TheVariants as fault
 use Rattle.hv_line.specs.declared.types.DebugCommand.{DebugCommand}
@@ -15,6 +14,7 @@ use Rattle.hv_job.specs.Commands.{line_commands, commands_from, commands_then, c
 use Rattle.hv_job.specs.IsJob.{breaks_in}
 use Rattle.hv_job.specs.declared.job.DebugLine.{DebugLine}
 use Rattle.hv_job.proofs.Commanding.{breaks_more, room_breaks, room_commands}
+use Rattle.hv_lex.specs.Refusing.{◌>>=◌}
 
 -- what the commands so far keep
 pub record AreCommands (commands : List DebugLine) : Type 0 where

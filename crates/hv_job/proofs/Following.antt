@@ -6,7 +6,7 @@ use Rattle.std.specs.Prelude.{IsErrAnd}
 use Rattle.hv_line.specs.Statements.{statement_of, storage_line_of}
 use Rattle.hv_job.specs.Commands.{commands_from}
 use Rattle.hv_job.specs.Drafted.{GivesJob, Refuses}
-use Rattle.hv_job.specs.JobOf.{ReadJob, and_then, begins_image, body_from, draft_of, header_from, is_debug, is_image, job_in, job_with, line_with, storage_from, behind_storage}
+use Rattle.hv_job.specs.JobOf.{ReadJob, begins_image, body_from, draft_of, header_from, is_debug, is_image, job_in, job_with, line_with, storage_from, behind_storage}
 use Rattle.hv_line.specs.Lines.{has_words, is_allowed, is_header, words_of}
 use Rattle.hv_line.specs.declared.types.Statement.{Statement}
 use Rattle.hv_job.specs.declared.draft.Draft.{Draft}
@@ -17,6 +17,7 @@ use Rattle.hv_line.specs.declared.kinds.JobKind.TheVariants as fault
 use Rattle.hv_job.specs.declared.job.DebugLine.{DebugLine}
 use Rattle.hv_job.specs.declared.job.Job.{Job}
 use Rattle.hv_job.proofs.Ending.{no_lines}
+use Rattle.hv_lex.specs.Refusing.{◌>>=◌}
 
 -- the header
 pub header_end : (n : ℕ) (s : List ℕ) (all : ReadJob) → length s ≡ 0 → header_from n (lines_of s) ≡ all → all ≡ Err (n, fault.Header)
@@ -84,15 +85,15 @@ module _ (draft : Draft) (n : ℕ) (s line behind : List ℕ) (all : ReadJob) (c
   abbrev ended : ReadJob
   ended = job_with draft (commands_from [] (n + 1) (lines_of behind))
 
-  body_is : (last : Bool) → is_debug line ≡ last → body_from draft false n (lines_of s) ≡ cond last ended (and_then (line_with draft n line (lines_of behind)) next)
+  body_is : (last : Bool) → is_debug line ≡ last → body_from draft false n (lines_of s) ≡ cond last ended ((line_with draft n line (lines_of behind)) >>= next)
   unfolding body_from
-  body_is last d = ap (body_from draft false n) cut ∙ ap (λ b. cond b ended (and_then (line_with draft n line (lines_of behind)) next)) d
+  body_is last d = ap (body_from draft false n) cut ∙ ap (λ b. cond b ended ((line_with draft n line (lines_of behind)) >>= next)) d
 
   pub body_more : is_debug line ≡ false → (new : Draft) (m : ℕ) (rest : List ℕ) → line_with draft n line (lines_of behind) ≡ Ok new → body_from new (begins_image line) (n + 1) (lines_of behind) ≡ body_from new false m (lines_of rest) → body_from new false m (lines_of rest) ≡ all
-  body_more d new m rest made goes = sym goes ∙ sym (ap (λ r. and_then r next) made) ∙ sym (body_is false d) ∙ told
+  body_more d new m rest made goes = sym goes ∙ sym (ap (λ r. (r >>= next)) made) ∙ sym (body_is false d) ∙ told
 
   pub body_refused : is_debug line ≡ false → (end : JobEnd) → Refuses end (line_with draft n line (lines_of behind)) → Refuses end all
-  body_refused d (JobFault k kind) made = sym told ∙ body_is false d ∙ ap (λ r. and_then r next) made
+  body_refused d (JobFault k kind) made = sym told ∙ body_is false d ∙ ap (λ r. (r >>= next)) made
   body_refused d Memory made = tt
 
   pub body_ended : is_debug line ≡ true → (commands : List DebugLine) → commands_from [] (n + 1) (lines_of behind) ≡ Ok commands → all ≡ Ok (job_in draft commands)

@@ -31,7 +31,7 @@ use Rattle.hv_line.proofs.Ranging.{statement_ranged, storage_ranged}
 use Rattle.hv_job.specs.Commands.{commands_from}
 use Rattle.hv_job.specs.Drafted.{GivesJob}
 use Rattle.hv_job.specs.IsJob.{IsJob, count_of, event_in, event_of, happening_of, image_bytes, is_dump, is_machine, is_watch}
-use Rattle.hv_job.specs.JobOf.{and_then, at_line, begins_image, before_end, behind_storage, body_from, directive_with, draft_of, draft_with, event_directive, event_with, harts_with, header_from, image_lines_with, image_of, image_with, image_words, is_debug, is_end, is_many, job_in, job_of, job_with, line_with, lines_with, sample_with, schedule_with, storage_from, words_with}
+use Rattle.hv_job.specs.JobOf.{begins_image, before_end, behind_storage, body_from, directive_with, draft_of, draft_with, event_directive, event_with, harts_with, header_from, image_lines_with, image_of, image_with, image_words, is_debug, is_end, is_many, job_in, job_of, job_with, line_with, lines_with, sample_with, schedule_with, storage_from, words_with}
 use Rattle.hv_job.specs.declared.draft.Draft.{Draft}
 use Rattle.hv_job.specs.declared.ends.JobEnd.{JobEnd}
 use Rattle.hv_job.specs.declared.job.DebugLine.{DebugLine}
@@ -39,6 +39,7 @@ use Rattle.hv_job.specs.declared.job.Job.{Job}
 use Rattle.hv_job.specs.declared.job.Placed.{Placed}
 use Rattle.hv_job.proofs.Counting.{counted, sized, room_machines, room_watches, room_dumps, room_bytes}
 use Rattle.hv_job.proofs.Entering.{AreCommands, commands_are, no_commands}
+use Rattle.hv_lex.specs.Refusing.{◌>>=◌, at_line}
 
 -- what the lines so far keep
 pub record IsDraft (draft : Draft) : Type 0 where
@@ -227,7 +228,7 @@ line_is draft new n line behind is made =
 abbrev Answered : Type 0
 Answered = Result Job (ℕ × JobKind)
 
-next_ok : (r : Drafted) (next : Draft → Answered) (job : Job) → and_then r next ≡ Ok job → (new : Draft) × (r ≡ Ok new) × (next new ≡ Ok job)
+next_ok : (r : Drafted) (next : Draft → Answered) (job : Job) → (r >>= next) ≡ Ok job → (new : Draft) × (r ≡ Ok new) × (next new ≡ Ok job)
 next_ok (Ok new) next job made = (new, refl, made)
 next_ok (Err e) next job made = cc
 
@@ -277,7 +278,7 @@ body_is [] draft inside n job is made = subst IsReadJob (ok_job _ job made) (job
 body_is (line ∷ lines) draft true n job is made = body_is lines draft (not (is_end line)) (n + 1) job is made
 body_is (line ∷ lines) draft false n job is made =
     found_or (is_debug line) (job_with draft (commands_from [] (n + 1) lines))
-    (and_then (line_with draft n line lines) (λ next. body_from next (begins_image line) (n + 1) lines)) job
+    ((line_with draft n line lines) >>= (λ next. body_from next (begins_image line) (n + 1) lines)) job
     (ended_is draft (commands_from [] (n + 1) lines) job is (λ commands told. commands_are lines [] commands (n + 1) no_commands told))
     (λ told.
     let s = next_ok (line_with draft n line lines) (λ next. body_from next (begins_image line) (n + 1) lines) job told in

@@ -12,13 +12,14 @@ use Rattle.hv_lex.specs.Lines.{lines_of}
 use Rattle.hv_line.specs.Answers.{LineRefuses}
 use Rattle.hv_job.specs.Drafted.{FitsBehind, Refuses, end_at, end_inside}
 use Rattle.hv_job.specs.Inside.{IsCut}
-use Rattle.hv_job.specs.JobOf.{at_line, before_end, body_from, image_lines_with, image_of, image_with, image_words, is_end, directive_with}
+use Rattle.hv_job.specs.JobOf.{before_end, body_from, image_lines_with, image_of, image_with, image_words, is_end, directive_with}
 use Rattle.hv_line.specs.Lines.{is_allowed}
 use Rattle.hv_job.specs.declared.draft.Draft.{Draft}
 use Rattle.hv_line.specs.declared.kinds.JobLineEnd.{JobLineEnd}
 use Rattle.hv_line.specs.declared.kinds.JobLineEnd.TheVariants as lined
 use Rattle.hv_line.specs.declared.kinds.JobKind.TheVariants as fault
 use Rattle.hv_line.specs.declared.types.Directive.TheVariants as directive
+use Rattle.hv_lex.specs.Refusing.{at_line}
 
 none_first : (b rest : Bool) → (b || rest) ≡ false → (b ≡ false) × (rest ≡ false)
 none_first true rest e = cc

@@ -3,13 +3,13 @@ use Rattle.std.specs.Prelude.{ℕ, ◌+◌, ◌||◌, nat_le, not, Bool, if◌th
 use Rattle.hv_line.specs.Commands.{command_of, join_words_of}
 use Rattle.hv_line.specs.JobLimits.{job_breaks, job_commands}
 use Rattle.hv_line.specs.Lines.{has_words, is_allowed, words_of}
-use Rattle.hv_line.specs.Statements.{◌>>=◌}
 use Rattle.hv_line.specs.declared.kinds.JobKind.{JobKind}
 use Rattle.hv_line.specs.declared.kinds.JobKind.TheVariants as fault
 use Rattle.hv_line.specs.declared.types.DebugCommand.{DebugCommand}
 use Rattle.hv_line.specs.declared.types.DebugCommand.TheVariants as command
 use Rattle.hv_job.specs.IsJob.{breaks_in}
 use Rattle.hv_job.specs.declared.job.DebugLine.{DebugLine}
+use Rattle.hv_lex.specs.Refusing.{◌>>=◌}
 
 -- a limit that a command behind these passes
 unfoldable pub is_over : List DebugLine → DebugCommand → Bool

@@ -25,6 +25,7 @@ use Rattle.hv_job.specs.declared.draft.Draft.{Draft}
 use Rattle.hv_job.specs.declared.job.DebugLine.{DebugLine}
 use Rattle.hv_job.specs.declared.job.Job.{Job}
 use Rattle.hv_job.specs.declared.job.Placed.{Placed}
+use Rattle.hv_lex.specs.Refusing.{◌>>=◌, at_line}
 
 -- a job, or the number of a line and why it is refused
 abbrev pub ReadJob : Type 0
@@ -96,11 +97,6 @@ asm_kind asm.Mnemonic = fault.Mnemonic
 asm_kind asm.Operand = fault.Operand
 asm_kind asm.Label = fault.Label
 asm_kind asm.Range = fault.Range
-
--- a refusal at the line of this number
-abbrev pub at_line : {A : Type 0} → ℕ → Result A JobKind → Result A (ℕ × JobKind)
-at_line number (Ok value) = Ok value
-at_line number (Err kind) = Err (number, kind)
 
 -- the draft with an image that was assembled, whose end is this line
 abbrev pub image_with :
@@ -181,11 +177,6 @@ abbrev pub job_with : Draft → Result (List DebugLine) (ℕ × JobKind) → Rea
 job_with draft (Ok commands) = Ok (job_in draft commands)
 job_with draft (Err refusal) = Err refusal
 
--- what follows where no line of directives was refused
-abbrev pub and_then : Result Draft (ℕ × JobKind) → (Draft → ReadJob) → ReadJob
-and_then (Ok draft) next = next draft
-and_then (Err refusal) next = Err refusal
-
 -- the job of a draft and the lines behind, the first of which has this number; the lines inside an image were read with
 -- the line that began it
 unfoldable pub body_from : Draft → Bool → ℕ → List (List ℕ) → ReadJob
@@ -193,7 +184,7 @@ body_from draft inside number [] = Ok (job_in draft [])
 body_from draft true number (line ∷ lines) = body_from draft (not (is_end line)) (number + 1) lines
 body_from draft false number (line ∷ lines) =
     if is_debug line then job_with draft (commands_from [] (number + 1) lines)
-    else and_then (line_with draft number line lines) (λ next. body_from next (begins_image line) (number + 1) lines)
+    else (line_with draft number line lines >>= λ next. body_from next (begins_image line) (number + 1) lines)
 
 -- nothing but a storage
 abbrev pub draft_of : ℕ → Draft

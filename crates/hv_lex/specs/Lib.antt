@@ -1,4 +1,5 @@
 pub mod Lexed
 pub mod Lines
 pub mod Numbers
+pub mod Refusing
 pub mod Tokens

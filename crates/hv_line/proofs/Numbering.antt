@@ -1,10 +1,11 @@
 -- The numbers of a line, one more at a time.
 use Rattle.std.proofs.Common.{◌≡◌, ℕ, suc, ◌+◌, ◌<◌, ◌≤◌, List, [], ◌∷◌, ◌++◌, length, drop, Bor, Result, Ok, Err, refl, sym, ap, ◌∙◌, arith, append_assoc, drop-cons}
 use Rattle.std.proofs.lemmas.List.{append-nil, drop_all}
-use Rattle.hv_line.specs.Statements.{◌>>=◌, number, numbers}
+use Rattle.hv_line.specs.Statements.{number, numbers}
 use Rattle.hv_line.specs.Texts.{texts}
 use Rattle.hv_line.specs.declared.kinds.JobKind.{JobKind}
 use Rattle.hv_line.proofs.Shapes.{text_at}
+use Rattle.hv_lex.specs.Refusing.{◌>>=◌}
 
 -- numbers in front of others, unless these are refused
 abbrev pub in_front : List ℕ → Result (List ℕ) JobKind → Result (List ℕ) JobKind

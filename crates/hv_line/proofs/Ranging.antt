@@ -6,7 +6,7 @@ use Rattle.std.proofs.lemmas.Bool.{leb-true, ltb-true, eqb-true}
 use Rattle.hv_lex.specs.Numbers.{fitting, number_after, number_in, number_of, spelled_from}
 use Rattle.hv_samples.specs.declared.choice.Sample.{Sample}
 use Rattle.hv_samples.specs.declared.choice.Sample.TheVariants as sample
-use Rattle.hv_line.specs.Statements.{◌>>=◌, access, address, any_sample, statement_of, between, statement_with, dump_directive_of, fixed, hart, hart_directive_of, harts_directive_of, image_directive_of, inner, later_page, lines_directive_of, machine_directive_of, map_directive_of, mask, named, number, numbers, or_no_number, page, pages, sample_directive_of, start_directive_of, storage_line_of, storage_pages, storage_with, tower_directive_of, turn_directive_of, watch_directive_of, word_directive_of, word_with}
+use Rattle.hv_line.specs.Statements.{access, address, any_sample, statement_of, between, statement_with, dump_directive_of, fixed, hart, hart_directive_of, harts_directive_of, image_directive_of, inner, later_page, lines_directive_of, machine_directive_of, map_directive_of, mask, named, number, numbers, or_no_number, page, pages, sample_directive_of, start_directive_of, storage_line_of, storage_pages, storage_with, tower_directive_of, turn_directive_of, watch_directive_of, word_directive_of, word_with}
 use Rattle.hv_irq.specs.declared.Event.TheVariants as event
 use Rattle.hv_limits.specs.Limits.{pages_limit, steps_limit}
 use Rattle.hv_line.specs.Commands.{step_command_of, break_command_of, regs_command_of, mem_command_of, path_command_of, map_command_of, faults_command_of, command_of, command_with}
@@ -19,6 +19,7 @@ use Rattle.hv_line.specs.declared.types.Directive.TheVariants as directive
 use Rattle.hv_line.specs.declared.types.Statement.TheVariants as states
 use Rattle.hv_line.specs.declared.kinds.JobKind.{JobKind}
 use Rattle.hv_line.specs.declared.kinds.JobKind.TheVariants as fault
+use Rattle.hv_lex.specs.Refusing.{◌>>=◌}
 
 -- what passed a test, and then the next one
 pub then_ok : {A B : Type 0} (r : Result A JobKind) (f : A → Result B JobKind) (x : B) → (r >>= f) ≡ Ok x → (v : A) × (r ≡ Ok v) × (f v ≡ Ok x)

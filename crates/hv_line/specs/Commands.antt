@@ -3,11 +3,12 @@
 use Rattle.std.specs.Prelude.{ℕ, if◌then◌else◌, List, [], ◌∷◌, ◌++◌, codes, Result, Ok, Err}
 use Rattle.std.specs.Str.{bytes_eq}
 use Rattle.hv_limits.specs.Limits.{steps_limit}
-use Rattle.hv_line.specs.Statements.{◌>>=◌, address, between, hart, named, number, page}
+use Rattle.hv_line.specs.Statements.{address, between, hart, named, number, page}
 use Rattle.hv_line.specs.declared.kinds.JobKind.{JobKind}
 use Rattle.hv_line.specs.declared.kinds.JobKind.TheVariants as fault
 use Rattle.hv_line.specs.declared.types.DebugCommand.{DebugCommand}
 use Rattle.hv_line.specs.declared.types.DebugCommand.TheVariants as command
+use Rattle.hv_lex.specs.Refusing.{◌>>=◌}
 
 -- step N
 unfoldable pub step_command_of : List (List ℕ) → Result DebugCommand JobKind

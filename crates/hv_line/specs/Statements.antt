@@ -16,13 +16,6 @@ use Rattle.hv_line.specs.declared.types.Directive.TheVariants as directive
 use Rattle.hv_line.specs.declared.types.Statement.{Statement}
 use Rattle.hv_line.specs.declared.types.Statement.TheVariants as states
 
--- what follows a test that was passed
-infixl 10 ◌>>=◌
--- what follows a value, or its refusal
-abbrev pub ◌>>=◌ : {A B : Type 0} → Result A JobKind → (A → Result B JobKind) → Result B JobKind
-(Ok value) >>= next = next value
-(Err kind) >>= next = Err kind
-
 -- a word that is this text
 unfoldable pub fixed : List ℕ → List ℕ → Result (Unit {0}) JobKind
 fixed text word = if bytes_eq word text then Ok tt else Err fault.Words

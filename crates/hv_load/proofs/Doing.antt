@@ -15,13 +15,14 @@ use Rattle.hv_load.specs.declared.parts.Mark.{Mark}
 use Rattle.hv_load.specs.declared.parts.Mark.TheVariants as mark
 use Rattle.hv_load.specs.declared.start.Start.{Start}
 use Rattle.hv_load.specs.Answers.{Refuses}
-use Rattle.hv_load.specs.Building.{◌>>=◌, Building, Known, known}
-use Rattle.hv_load.specs.Build.{GivesStart, and_then, at_line, built_from, command_fault, command_of, done_of, end_of, fault_or, part_of, parts_of}
+use Rattle.hv_load.specs.Building.{Building, Known, known}
+use Rattle.hv_load.specs.Build.{GivesStart, built_from, command_fault, command_of, done_of, end_of, fault_or, part_of, parts_of}
 use Rattle.hv_load.specs.Directives.{image_in, image_of, words_in, words_of}
 use Rattle.hv_load.specs.Finding.{found_by}
 use Rattle.hv_load.specs.Pages.{each_from, marked, page_at, place_by, with_values}
 use Rattle.hv_load.specs.Tower.{grown, level_machine, level_sample, levels_from}
 use Rattle.hv_load.proofs.Lists.{left_at}
+use Rattle.hv_lex.specs.Refusing.{◌>>=◌, at_line}
 
 -- a refusal of a part is one of the whole
 refused_by : {A B : Type 0} (end : DirectiveEnd) (part : Result A BuildKind) (whole : Result B BuildKind) → ((why : BuildKind) → part ≡ Err why → whole ≡ Err why) → Refuses end part → Refuses end whole
@@ -70,24 +71,24 @@ module _ (b : Building) (name read : List ℕ) (names : List Known) (k : Known) 
       refused_by end (each_from (place_by (found_by b.storage marks chain k.pages true)) (image.base / 4) n) (image_of b name image) (λ why is. image_by image n (Err why) count is)
 
 -- one line more of a job
-built_at : (b : Building) (lines : List Placed) (i : ℕ) (p : Placed) (r : Result Building BuildKind) → i < length lines → p ≡ get_or lines i p → done_of b p.line p.what ≡ r → built_from b (drop i lines) ≡ and_then (at_line p.line r) (λ next. built_from next (drop (i + 1) lines))
+built_at : (b : Building) (lines : List Placed) (i : ℕ) (p : Placed) (r : Result Building BuildKind) → i < length lines → p ≡ get_or lines i p → done_of b p.line p.what ≡ r → built_from b (drop i lines) ≡ ((at_line p.line r) >>= (λ next. built_from next (drop (i + 1) lines)))
 unfolding built_from
 built_at b lines i p r h is done =
     ap (built_from b) (left_at lines i p h is)
-    ∙ ap (λ (r : Result Building BuildKind). and_then (at_line p.line r) (λ next. built_from next (drop (i + 1) lines))) done
+    ∙ ap (λ (r : Result Building BuildKind). ((at_line p.line r) >>= (λ next. built_from next (drop (i + 1) lines)))) done
 
 pub built_more : (b next : Building) (lines : List Placed) (i : ℕ) (p : Placed) (all : Result Building (ℕ × BuildKind)) → i < length lines → p ≡ get_or lines i p → done_of b p.line p.what ≡ Ok next → built_from b (drop i lines) ≡ all → built_from next (drop (i + 1) lines) ≡ all
 built_more b next lines i p all h is done told = sym (built_at b lines i p (Ok next) h is done) ∙ told
 
-pub built_stop : (b : Building) (lines : List Placed) (i : ℕ) (p : Placed) (why : BuildKind) (all : Result Building (ℕ × BuildKind)) (after : Building → Result Start (ℕ × BuildKind)) → i < length lines → p ≡ get_or lines i p → done_of b p.line p.what ≡ Err why → built_from b (drop i lines) ≡ all → and_then all after ≡ Err (p.line, why)
+pub built_stop : (b : Building) (lines : List Placed) (i : ℕ) (p : Placed) (why : BuildKind) (all : Result Building (ℕ × BuildKind)) (after : Building → Result Start (ℕ × BuildKind)) → i < length lines → p ≡ get_or lines i p → done_of b p.line p.what ≡ Err why → built_from b (drop i lines) ≡ all → (all >>= after) ≡ Err (p.line, why)
 built_stop b lines i p why all after h is done told =
-    ap (λ (r : Result Building (ℕ × BuildKind)). and_then r after) (sym told ∙ built_at b lines i p (Err why) h is done)
+    ap (λ (r : Result Building (ℕ × BuildKind)). (r >>= after)) (sym told ∙ built_at b lines i p (Err why) h is done)
 
-pub built_end : (b : Building) (lines : List Placed) (i : ℕ) (result : Result Start BuildEnd) (all : Result Building (ℕ × BuildKind)) (read commands : List DebugLine) → length lines ≤ i → read ≡ commands → GivesStart result (end_of read b) → built_from b (drop i lines) ≡ all → GivesStart result (and_then all (end_of commands))
+pub built_end : (b : Building) (lines : List Placed) (i : ℕ) (result : Result Start BuildEnd) (all : Result Building (ℕ × BuildKind)) (read commands : List DebugLine) → length lines ≤ i → read ≡ commands → GivesStart result (end_of read b) → built_from b (drop i lines) ≡ all → GivesStart result (all >>= (end_of commands))
 unfolding built_from
 built_end b lines i result all read commands h same gives told =
     subst
-    (λ (r : Result Building (ℕ × BuildKind)). GivesStart result (and_then r (end_of commands)))
+    (λ (r : Result Building (ℕ × BuildKind)). GivesStart result (r >>= (end_of commands)))
     (sym (ap (built_from b) (drop_all i lines h)) ∙ told)
     (subst (λ (l : List DebugLine). GivesStart result (end_of l b)) same gives)
 

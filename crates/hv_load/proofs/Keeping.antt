@@ -27,14 +27,15 @@ use Rattle.hv_load.specs.declared.ends.BuildKind.{BuildKind}
 use Rattle.hv_load.specs.declared.ends.BuildKind.TheVariants as kind
 use Rattle.hv_load.specs.declared.parts.PlacedWatch.{PlacedWatch}
 use Rattle.hv_load.specs.declared.parts.Mark.TheVariants as mark
-use Rattle.hv_load.specs.Building.{◌>>=◌, Building, Known, known, known_inside, named, nothing_built}
-use Rattle.hv_load.specs.Build.{GivesStart, and_then, at_line, build_of, built_from, can_watch, command_fault, done_of, end_of, finish_of, part_of, parts_of, start_of, top_of, towered_of, unless_fault, unless_refused, watch_asked, watch_fault, with_top}
+use Rattle.hv_load.specs.Building.{Building, Known, known, known_inside, named, nothing_built}
+use Rattle.hv_load.specs.Build.{GivesStart, build_of, built_from, can_watch, command_fault, done_of, end_of, finish_of, part_of, parts_of, start_of, top_of, towered_of, unless_fault, unless_refused, watch_asked, watch_fault, with_top}
 use Rattle.hv_line.specs.JobLimits.{job_machines}
 use Rattle.hv_load.specs.Directives.{dump_in, dump_of, event_of, hart_of, image_in, image_of, is_outside, is_shared, machine_of, made_in, mapped_in, mapped_of, pages_along, started_in, started_of, watch_in, watch_of, with_made, words_in, words_of}
 use Rattle.hv_load.specs.Making.{block_word, can_take, table_word, with_machine, with_page, with_tables}
 use Rattle.hv_load.specs.Pages.{block_page, each_from, free_page_of, marked, outer, page_at, page_of, place_by, reads_in, table_word_of, with_values}
 use Rattle.hv_load.specs.Tower.{level_name, tower_of}
 use Rattle.hv_load.proofs.Writing.{length-with_page}
+use Rattle.hv_lex.specs.Refusing.{◌>>=◌, at_line}
 
 failed : {B E : Type 0} (why : E) (y : B) (r : Result B E) → r ≡ Err why → r ≡ Ok y → ⊥
 failed why y r e o = cc
@@ -271,7 +272,7 @@ at_line_bound : {A : Type 0} (line : ℕ) (r : Result A BuildKind) (y : A) → a
 at_line_bound line (Ok x) y is = ap (λ (x : _). Ok x) (given x y (at_line line (Ok x)) refl is)
 at_line_bound line (Err why) y is = absurd (failed (line, why) y (at_line line (Err why)) refl is)
 
-and_then_bound : {A B : Type 0} (r : Result A (ℕ × BuildKind)) (f : A → Result B (ℕ × BuildKind)) (y : B) → and_then r f ≡ Ok y → (x : A) × (r ≡ Ok x) × (f x ≡ Ok y)
+and_then_bound : {A B : Type 0} (r : Result A (ℕ × BuildKind)) (f : A → Result B (ℕ × BuildKind)) (y : B) → (r >>= f) ≡ Ok y → (x : A) × (r ≡ Ok x) × (f x ≡ Ok y)
 and_then_bound (Ok x) f y is = (x, refl, is)
 and_then_bound (Err end) f y is = absurd (failed end y (Err end) refl is)
 

@@ -3,9 +3,9 @@ use Rattle.std.proofs.Common.{◌≡◌, ℕ, suc, ◌+◌, ◌-◌, ◌*◌, �
 use Rattle.std.specs.List.{All}
 use Rattle.std.proofs.lemmas.List.Elements.{All-push}
 use Rattle.hv_load.specs.declared.ends.BuildKind.{BuildKind}
-use Rattle.hv_load.specs.Building.{◌>>=◌}
 use Rattle.hv_load.specs.Finding.{in_front}
 use Rattle.hv_load.specs.Pages.{each_from, place_by}
+use Rattle.hv_lex.specs.Refusing.{◌>>=◌}
 
 fronted : (front : List ℕ) (r : Result (List ℕ) BuildKind) (g : ℕ) → in_front front (r >>= λ gs. Ok (g ∷ gs)) ≡ in_front (front ++ g ∷ []) r
 fronted front (Ok gs) g = ap (λ (l : List ℕ). let r : Result (List ℕ) BuildKind = Ok l in r) (sym (append_assoc front (g ∷ []) gs))

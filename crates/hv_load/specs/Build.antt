@@ -20,9 +20,10 @@ use Rattle.hv_load.specs.declared.parts.PlacedWatch.{PlacedWatch}
 use Rattle.hv_load.specs.declared.start.Named.{Named}
 use Rattle.hv_load.specs.declared.start.Plan.{Plan}
 use Rattle.hv_load.specs.declared.start.Start.{Start}
-use Rattle.hv_load.specs.Building.{◌>>=◌, Building, Known, known, named, nothing_built}
+use Rattle.hv_load.specs.Building.{Building, Known, known, named, nothing_built}
 use Rattle.hv_load.specs.Directives.{dump_of, event_of, hart_of, image_of, machine_of, mapped_of, started_of, watch_of, words_of}
 use Rattle.hv_load.specs.Tower.{level_name, tower_of}
+use Rattle.hv_lex.specs.Refusing.{◌>>=◌, at_line}
 
 -- a part of a tower, which is a machine or a sample
 abbrev pub part_of : Building → Directive → Result Building BuildKind
@@ -64,22 +65,11 @@ done_of b line (directive.Lines hart) = event_of b hart
 done_of b line (directive.Watch hart name) = watch_of b line hart name
 done_of b line (directive.Dump name page) = dump_of b name page
 
--- a refusal at a line
-abbrev pub at_line : {A : Type 0} → ℕ → Result A BuildKind → Result A (ℕ × BuildKind)
-at_line line (Ok x) = Ok x
-at_line line (Err why) = Err (line, why)
-
--- a step that may be refused at a line, and one that goes on from what it gives
-abbrev pub and_then : {A B : Type 0}
-    → Result A (ℕ × BuildKind) → (A → Result B (ℕ × BuildKind)) → Result B (ℕ × BuildKind)
-and_then (Ok x) f = f x
-and_then (Err end) f = Err end
-
 -- all directives in order, or the first that is refused
 unfoldable pub built_from : Building → List Placed → Result Building (ℕ × BuildKind)
 built_from b [] = Ok b
 built_from b (placed ∷ lines) =
-    and_then (at_line placed.line (done_of b placed.line placed.what)) (λ next. built_from next lines)
+    at_line placed.line (done_of b placed.line placed.what) >>= λ next. built_from next lines
 
 -- a command of the debugger names a machine or a hart that is there
 abbrev pub command_of : Building → DebugCommand → Result Building BuildKind
@@ -148,7 +138,7 @@ end_of commands b = unless_refused b (command_fault b commands)
 
 -- the start of a job, or the line that is refused and why
 unfoldable pub build_of : Job → Result Start (ℕ × BuildKind)
-build_of job = and_then (built_from (nothing_built job.pages job.harts) job.lines) (end_of job.commands)
+build_of job = built_from (nothing_built job.pages job.harts) job.lines >>= end_of job.commands
 
 -- what `build` answers; memory may be wanting whatever the job is
 abbrev pub GivesStart : Result Start BuildEnd → Result Start (ℕ × BuildKind) → Type 0

@@ -10,6 +10,7 @@ use Rattle.hv_load.specs.declared.parts.Mark.{Mark}
 use Rattle.hv_load.specs.declared.parts.Mark.TheVariants.{Free}
 use Rattle.hv_load.specs.declared.parts.PlacedWatch.{PlacedWatch}
 use Rattle.hv_load.specs.declared.start.Dump.{Dump}
+use Rattle.hv_lex.specs.Refusing.{◌>>=◌}
 
 -- a machine: its name, the path to it, and how many pages its line gave it
 pub record Known : Type 0 where
@@ -29,13 +30,6 @@ pub record Building : Type 0 where
   pub harts : List Regs
   pub watches : List PlacedWatch
   pub dumps : List Dump
-
--- a step that may be refused, and one that goes on from what it gives
-infixl 10 ◌>>=◌
--- what f makes of a result, or its refusal
-abbrev pub ◌>>=◌ : {A B : Type 0} → Result A BuildKind → (A → Result B BuildKind) → Result B BuildKind
-(Ok x) >>= f = f x
-(Err e) >>= f = Err e
 
 -- the first machine of this name
 abbrev pub named : List ℕ → List Known → Option Known

@@ -10,9 +10,10 @@ use Rattle.hv_line.specs.JobLimits.{job_machines}
 use Rattle.hv_load.specs.declared.ends.BuildKind.{BuildKind}
 use Rattle.hv_load.specs.declared.ends.BuildKind.TheVariants as kind
 use Rattle.hv_load.specs.declared.parts.Mark.TheVariants as mark
-use Rattle.hv_load.specs.Building.{◌>>=◌, Building, Known, known, known_inside, named}
+use Rattle.hv_load.specs.Building.{Building, Known, known, known_inside, named}
 use Rattle.hv_load.specs.Pages.{block_page, each_from, free_page_of, marked, outer, page_at, page_of, place_by, reads_in, table_word_of, with_values, writes_in}
 use Rattle.hv_load.specs.Making.{can_take, with_machine}
+use Rattle.hv_lex.specs.Refusing.{◌>>=◌}
 
 -- `hart`
 abbrev pub hart_of : Building → (hart pc : ℕ) → Result Building BuildKind

@@ -6,8 +6,8 @@ use Rattle.hv_map.specs.Chain.{map_along}
 use Rattle.hv_load.specs.declared.ends.BuildKind.{BuildKind}
 use Rattle.hv_load.specs.declared.ends.BuildKind.TheVariants as kind
 use Rattle.hv_load.specs.declared.parts.Mark.{Mark}
-use Rattle.hv_load.specs.Building.{◌>>=◌}
 use Rattle.hv_load.specs.Pages.{if_free, reads_in}
+use Rattle.hv_lex.specs.Refusing.{◌>>=◌}
 
 -- the bare page of a page of a machine with so many pages, at the end of the chain, if there is one
 abbrev pub page_along : List ℕ → Option (List Item) → (limit page : ℕ) → Result ℕ BuildKind

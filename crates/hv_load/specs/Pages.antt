@@ -10,7 +10,8 @@ use Rattle.hv_load.specs.declared.ends.BuildKind.{BuildKind}
 use Rattle.hv_load.specs.declared.ends.BuildKind.TheVariants as kind
 use Rattle.hv_load.specs.declared.parts.Mark.{Mark}
 use Rattle.hv_load.specs.declared.parts.Mark.TheVariants.{Free, Control, Image}
-use Rattle.hv_load.specs.Building.{◌>>=◌, Known}
+use Rattle.hv_load.specs.Building.{Known}
+use Rattle.hv_lex.specs.Refusing.{◌>>=◌}
 
 -- the bare page that a way opens
 abbrev pub opened : Way → Result ℕ BuildKind

@@ -14,11 +14,12 @@ use Rattle.hv_job.specs.declared.job.Job.{Job}
 use Rattle.hv_job.specs.declared.job.Placed.{Placed}
 use Rattle.hv_job.specs.IsJob.{IsJob, Happening, TurnOf, LinesOf, happening_of, event_of as happening_on}
 use Rattle.hv_load.specs.Building.{Building, nothing_built}
-use Rattle.hv_load.specs.Build.{done_of, at_line, and_then, built_from, end_of, build_of}
+use Rattle.hv_load.specs.Build.{done_of, built_from, end_of, build_of}
 use Rattle.hv_load.specs.declared.ends.BuildKind.{BuildKind}
 use Rattle.hv_load.specs.declared.ends.BuildKind.TheVariants as kind
 use Rattle.hv_load.specs.declared.start.Start.{Start}
 use Rattle.hv_load.proofs.Keeping.{done_keeps}
+use Rattle.hv_lex.specs.Refusing.{◌>>=◌, at_line}
 
 -- P holds of each
 abbrev Each : {A : Type 0} → (A → Type 0) → List A → Type 0
@@ -45,7 +46,7 @@ unfolding built_from
 lines_there n [] b end harts e = tt
 lines_there n (p ∷ ps) b end harts e = by (done_of b p.line p.what) refl e (λ next h. lines_there n ps next end h)
   where
-    by : (r : Result Building BuildKind) → done_of b p.line p.what ≡ r → and_then (at_line p.line r) (λ next. built_from next ps) ≡ Ok end →
+    by : (r : Result Building BuildKind) → done_of b p.line p.what ≡ r → ((at_line p.line r) >>= (λ next. built_from next ps)) ≡ Ok end →
         ((next : Building) → length next.harts ≡ n → built_from next ps ≡ Ok end → Each (λ (p : Placed). HasHart n p.what) ps) →
         Each (λ (p : Placed). HasHart n p.what) (p ∷ ps)
     by (Err why) is e more = cc
@@ -73,7 +74,7 @@ pub own_events : (job : Job) (start : Start) → IsJob job → build_of job ≡ 
 unfolding build_of
 own_events job start is e = by (built_from (nothing_built job.pages job.harts) job.lines) refl e
   where
-    by : (r : Result Building (ℕ × BuildKind)) → built_from (nothing_built job.pages job.harts) job.lines ≡ r → and_then r (end_of job.commands) ≡ Ok start → All (λ (e : Event). hart_of e < job.harts) job.recording
+    by : (r : Result Building (ℕ × BuildKind)) → built_from (nothing_built job.pages job.harts) job.lines ≡ r → (r >>= (end_of job.commands)) ≡ Ok start → All (λ (e : Event). hart_of e < job.harts) job.recording
     by (Err refusal) same e = cc
     by (Ok end) same e =
         events_there job.harts job.recording

@@ -17,7 +17,7 @@ use Rattle.hv_load.specs.declared.ends.BuildKind.{BuildKind}
 use Rattle.hv_load.specs.declared.ends.BuildKind.TheVariants as kind
 use Rattle.hv_load.specs.declared.start.Start.{Start}
 use Rattle.hv_load.specs.Building.{Building, nothing_built}
-use Rattle.hv_load.specs.Build.{at_line, build_of, built_from, command_fault, end_of, finish_of, start_of, towered_of, unless_fault, unless_refused, watch_asked, watch_fault}
+use Rattle.hv_load.specs.Build.{build_of, built_from, command_fault, end_of, finish_of, start_of, towered_of, unless_fault, unless_refused, watch_asked, watch_fault}
 use Rattle.hv_towers.specs.Laid.{from_base, LaidFrom}
 use Rattle.hv_towers.specs.Towers.{IsTopLine, TowerBuildLaw, with_tower}
 use Rattle.hv_towers.proofs.Bases.{base_slot, length-base}
@@ -26,6 +26,7 @@ use Rattle.hv_towers.proofs.Storeys.{Storeys, items_of, end_base, end_size, laid
 use Rattle.hv_towers.proofs.Standing.{apart_are}
 use Rattle.hv_towers.proofs.Rising.{Empty, last_size, tower_stands}
 use Rattle.hv_towers.proofs.Filling.{Did, Matches, lines_done, match_lines, put_lines, watched_lines, watches_are}
+use Rattle.hv_lex.specs.Refusing.{at_line}
 
 -- what the top sees
 seen_is : (S T : List ℕ) (N base : ℕ) → Matches N base S T → seen S (from_base base N) ≡ T

@@ -17,8 +17,8 @@ use Rattle.hv_line.specs.declared.types.Directive.TheVariants as directive
 use Rattle.hv_job.specs.declared.job.Placed.{Placed}
 use Rattle.hv_load.specs.declared.ends.BuildKind.{BuildKind}
 use Rattle.hv_load.specs.declared.ends.BuildKind.TheVariants as kind
-use Rattle.hv_load.specs.Building.{◌>>=◌, Building, Known, known}
-use Rattle.hv_load.specs.Build.{at_line, built_from, done_of, watch_asked}
+use Rattle.hv_load.specs.Building.{Building, Known, known}
+use Rattle.hv_load.specs.Build.{built_from, done_of, watch_asked}
 use Rattle.hv_load.specs.Directives.{is_shared, watch_in, watch_of}
 use Rattle.hv_towers.specs.Laid.{from_base}
 use Rattle.hv_towers.specs.Towers.{IsTop, IsTopLine}
@@ -27,6 +27,7 @@ use Rattle.hv_towers.proofs.Passing.{same_ok, chosen, passed, line_bound, then_b
 use Rattle.hv_towers.proofs.Storeys.{end_base, end_size, map_of_is}
 use Rattle.hv_towers.proofs.Raising.{storeys_same}
 use Rattle.hv_towers.proofs.Rising.{Stands}
+use Rattle.hv_lex.specs.Refusing.{◌>>=◌, at_line}
 
 -- the storage after a line, where the top's pages begin at page `base`, and the watch that it asks for
 abbrev pub put : ℕ → List ℕ → Directive → List ℕ

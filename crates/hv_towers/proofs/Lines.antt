@@ -11,7 +11,7 @@ use Rattle.hv_map.specs.Chain.{map_of}
 use Rattle.hv_limits.specs.Limits.{depth_limit}
 use Rattle.hv_load.specs.declared.ends.BuildKind.{BuildKind}
 use Rattle.hv_load.specs.declared.ends.BuildKind.TheVariants as kind
-use Rattle.hv_load.specs.Building.{◌>>=◌, Building, Known, known, named}
+use Rattle.hv_load.specs.Building.{Building, Known, known, named}
 use Rattle.hv_line.specs.JobLimits.{job_machines}
 use Rattle.hv_load.specs.Directives.{image_in, image_of, is_outside, machine_of, made_in, pages_along, with_made, words_in, words_of}
 use Rattle.hv_load.specs.Making.{can_take, with_machine}
@@ -19,6 +19,7 @@ use Rattle.hv_load.specs.Pages.{each_from, free_at, free_page_of, if_free, opene
 use Rattle.hv_towers.specs.Laid.{from_base}
 use Rattle.hv_towers.proofs.Bases.{base_at}
 use Rattle.hv_towers.proofs.Passing.{same_ok, never_ok, bound, chosen, passed, each_is}
+use Rattle.hv_lex.specs.Refusing.{◌>>=◌}
 
 -- the bare page of a page
 writes_is : (base n i g : ℕ) → writes_in (Some (from_base base n)) i ≡ Ok g → g ≡ base + i

@@ -4,9 +4,9 @@ use Rattle.std.specs.List.{range_with_len}
 use Rattle.std.specs.Str.{bytes_eq}
 use Rattle.hv_load.specs.declared.ends.BuildKind.{BuildKind}
 use Rattle.hv_load.specs.declared.ends.BuildKind.TheVariants as kind
-use Rattle.hv_load.specs.Building.{◌>>=◌, Known, known, known_as, named}
-use Rattle.hv_load.specs.Build.{and_then, at_line}
+use Rattle.hv_load.specs.Building.{Known, known, known_as, named}
 use Rattle.hv_load.specs.Pages.{each_from}
+use Rattle.hv_lex.specs.Refusing.{◌>>=◌, at_line}
 
 failed : {B E : Type 0} (why : E) (y : B) (r : Result B E) → r ≡ Err why → r ≡ Ok y → ⊥
 failed why y r e o = cc
@@ -33,7 +33,7 @@ pub line_bound : {A : Type 0} (line : ℕ) (r : Result A BuildKind) (y : A) → 
 line_bound line (Ok x) y is = ap (λ (x : _). Ok x) (same_ok x y (at_line line (Ok x)) refl is)
 line_bound line (Err why) y is = absurd (failed (line, why) y (at_line line (Err why)) refl is)
 
-pub then_bound : {A B : Type 0} (r : Result A (ℕ × BuildKind)) (f : A → Result B (ℕ × BuildKind)) (y : B) → and_then r f ≡ Ok y → (x : A) × (r ≡ Ok x) × (f x ≡ Ok y)
+pub then_bound : {A B : Type 0} (r : Result A (ℕ × BuildKind)) (f : A → Result B (ℕ × BuildKind)) (y : B) → (r >>= f) ≡ Ok y → (x : A) × (r ≡ Ok x) × (f x ≡ Ok y)
 then_bound (Ok x) f y is = (x, refl, is)
 then_bound (Err end) f y is = absurd (failed end y (Err end) refl is)
 

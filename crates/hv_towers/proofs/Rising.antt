@@ -8,12 +8,13 @@ use Rattle.hv_store.proofs.Identity.{length-zeros}
 use Rattle.hv_samples.specs.declared.choice.Sample.TheVariants.{Pass}
 use Rattle.hv_load.specs.declared.ends.BuildKind.{BuildKind}
 use Rattle.hv_load.specs.declared.ends.BuildKind.TheVariants as kind
-use Rattle.hv_load.specs.Building.{◌>>=◌, Building, Known, known, named, nothing_built, root_with}
+use Rattle.hv_load.specs.Building.{Building, Known, known, named, nothing_built, root_with}
 use Rattle.hv_load.specs.Build.{parts_of, top_of, towered_of, with_top}
 use Rattle.hv_load.specs.Tower.{grown, level_name, levels_from, tower_of}
 use Rattle.hv_towers.proofs.Passing.{same_ok, bound, passed, named_last}
 use Rattle.hv_towers.proofs.Storeys.{Storeys, end_base, end_size}
 use Rattle.hv_towers.proofs.Raising.{Raised, length_push, size_push, level}
+use Rattle.hv_lex.specs.Refusing.{◌>>=◌}
 
 -- how many pages the machine after so many levels more has
 unfoldable pub last_size : ℕ → ℕ → ℕ → ℕ

@@ -27,6 +27,7 @@ pub struct Block {
 }
 
 /// Word `word` (0 to 1023) of bare page `page`.
+#[inline(always)]
 pub fn block_word(store: &Store, page: u32, word: u32) -> u32
     requires page { page < page_count store.now }
     requires word { word < 1024 }

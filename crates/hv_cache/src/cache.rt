@@ -115,6 +115,7 @@ impl MapCache {
     }
 
     /// Whether some entry rests on a bare page.
+    #[inline(always)]
     pub fn watched(&self, page: u32) -> bool
         ensures { result ≡ any_rests_on page self.now.entries }
     {
@@ -122,6 +123,7 @@ impl MapCache {
     }
 
     /// Whether some entry has a bare page among its tables.
+    #[inline(always)]
     pub fn table_watched(&self, page: u32) -> bool
         ensures { result ≡ any_has_table page self.now.entries }
     {

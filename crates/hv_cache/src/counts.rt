@@ -33,6 +33,7 @@ impl Counts {
     }
 
     /// Whether the page is named.
+    #[inline(always)]
     pub(crate) fn names(&self, page: u32) -> bool
         ensures { result ≡ not (slice_index self.now page == 0) }
     {

@@ -136,6 +136,7 @@ impl Entries {
     }
 
     /// Whether some entry rests on a page.
+    #[inline(always)]
     pub(crate) fn watches(&self, page: u32) -> bool
         ensures { result ≡ any_rests_on page self.now.entries }
     {
@@ -143,6 +144,7 @@ impl Entries {
     }
 
     /// Whether some entry has a page among its tables.
+    #[inline(always)]
     pub(crate) fn watches_table(&self, page: u32) -> bool
         ensures { result ≡ any_has_table page self.now.entries }
     {

@@ -40,6 +40,7 @@ impl Tally {
     }
 
     /// Whether the page is named.
+    #[inline(always)]
     pub(crate) fn names(&self, page: u32) -> bool
         ensures { result ≡ not (slice_index self.now.pages page == 0) }
     {
@@ -47,6 +48,7 @@ impl Tally {
     }
 
     /// Whether the page is named among tables.
+    #[inline(always)]
     pub(crate) fn names_table(&self, page: u32) -> bool
         ensures { result ≡ not (slice_index self.now.tables page == 0) }
     {

@@ -97,6 +97,7 @@ impl Chain {
     }
 
     /// The number of machines, which is the level of the last one.
+    #[inline(always)]
     pub fn len(&self) -> u32
         ensures len { result ≡ length self.now }
         ensures bound { result ≤ depth_limit }
@@ -105,6 +106,7 @@ impl Chain {
     }
 
     // Machine `i`, counted from 0, which is at level `i + 1`.
+    #[inline(always)]
     pub(crate) fn link(&self, i: u32) -> Link
         requires { i < length self.now }
         ensures item { slice_get self.now i ≡ Some result }
@@ -149,6 +151,7 @@ impl Chain {
     }
 
     /// The number of pages of the last machine, or of the store where the chain has none.
+    #[inline(always)]
     #[tactic(auto, using(crate::proofs::Levels::chains))]
     pub fn pages(&self, store: &Store) -> u32
         ensures pages { result ≡ length (map_along store.now self.now) }

@@ -48,6 +48,7 @@ fn page_slot_by<L: Ledger>(store: &Store, chain: &Chain, page: u32, blank: Blank
 }
 
 // The number of pages of the machine at a level of the chain.
+#[inline(always)]
 #[tactic(auto, using(crate::proofs::Levels::levels))]
 pub(crate) fn pages_at(store: &Store, chain: &Chain, level: u32) -> u32
     requires { level ≤ length chain.now }

@@ -38,6 +38,7 @@ impl Path {
     }
 
     /// The number of syllables.
+    #[inline(always)]
     pub fn len(&self) -> u32
         ensures len { result ≡ length self.now }
         ensures bound { result ≤ depth_limit }
@@ -46,6 +47,7 @@ impl Path {
     }
 
     /// The syllables in order.
+    #[inline(always)]
     pub fn as_slice(&self) -> &[u32]
         ensures items { result.now ≡ self.now }
         ensures bound { length result.now ≤ depth_limit }
@@ -81,6 +83,7 @@ impl Path {
     }
 
     /// Whether this path is a prefix of the other.
+    #[inline(always)]
     pub fn begins(&self, other: &Path) -> bool
         ensures { result ≡ starts_with nat_eq other.now self.now }
     {

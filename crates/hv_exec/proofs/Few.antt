@@ -148,6 +148,7 @@ few_pc : (n : ℕ) (r q : Regs) (v : ℕ) → Few n r q → Few (1 + n) r (recor
 unfolding set_all
 few_pc n r q v f = few_all n r q (record q { pc = v }) ((0, v) ∷ []) refl f
 
+-- the registers after a trap to S
 abbrev pub trap_down : Regs → ℕ → Bool → ℕ → Regs
 trap_down r cause interrupt tval = record r {
   pc = entry_of r.stvec cause interrupt;
@@ -158,6 +159,7 @@ trap_down r cause interrupt tval = record r {
   stval = tval;
 }
 
+-- the registers after a trap to M
 abbrev pub trap_up : Regs → ℕ → Bool → ℕ → Regs
 trap_up r cause interrupt tval = record r {
   pc = entry_of r.mtvec cause interrupt;
@@ -233,6 +235,7 @@ few_csr r number v = by (is_barred r number || is_read_only number)
     by true = tt
     by false = at (csr_of number)
 
+-- the registers after MRET
 abbrev pub by_mret : Regs → Regs
 by_mret r = record r {
   pc = r.mepc;
@@ -248,6 +251,7 @@ few_mret r = by (r.mode == 3)
     by true = few_all 0 r r (by_mret r) ((0, r.mepc) ∷ (32, field_of r.mstatus 11 2) ∷ (33, unprivileged (left_m r.mstatus) (field_of r.mstatus 11 2)) ∷ []) refl (few_same r)
     by false = tt
 
+-- the registers after SRET
 abbrev pub by_sret : Regs → Regs
 by_sret r = record r {
   pc = r.sepc;

@@ -1,11 +1,10 @@
 -- Which words of the registers stay as they were: what an instruction tells of them holds.
-use Rattle.std.proofs.Common.{◌≡◌, ◌≢◌, ℕ, zero, suc, ◌+◌, ◌<◌, ◌==◌, Bool, true, false, cond, List, [], ◌∷◌, drop, map, set, get_or, Option, Some, None, refl, ap, sym, subst, ◌∙◌, arith, get_or-set_other}
+use Rattle.std.proofs.Common.{◌≡◌, ◌≢◌, ℕ, zero, suc, ◌+◌, ◌==◌, Bool, true, false, cond, List, [], ◌∷◌, drop, map, set, get_or, Some, None, refl, ap, sym, subst, ◌∙◌, arith, get_or-set_other}
 use Rattle.std.specs.Prelude.{◌||◌, slice_index}
 use Rattle.std.proofs.lemmas.Bool.{eqb-false, ne_eqb}
 use Rattle.std.proofs.lemmas.Option.{same_Some}
 use Rattle.hv_word.specs.Words.{field_of, has}
 use Rattle.hv_cpu.specs.Regs.{Regs, with_reg, spelled}
-use Rattle.hv_csr.specs.Access.{csr_write_of}
 use Rattle.hv_csr.specs.Traps.{goes_down, cause_word, entry_of, entered_m, entered_s, take_trap_of, left_m, left_s, unprivileged, mret_of, may_sret, sret_of}
 use Rattle.hv_exec.specs.Arithmetic.{sum_of}
 use Rattle.hv_exec.specs.Answer.{advanced, given}

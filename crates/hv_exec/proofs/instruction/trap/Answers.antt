@@ -13,10 +13,10 @@ returns-clause-touches c =
     let q = c.take_trap.new.cpu in
     let mode : q.mode ≡ mode_word c.cpu.inside.mode = ap (λ (p : Regs). p.mode) (sym c.cpu.view_is) in
     elim c.match-cpu.branch [
-      in-M w ↦
-        let up : mode_word c.cpu.inside.mode ≡ 3 = search rules in
-        subst (λ (t : Touched). Touches t r q) (sym w.result-is) (trap_up_leaves r q c.args.cause c.args.tval c.take_trap.ensures (mode ∙ up))
-    | in-S w ↦
-        let down : mode_word c.cpu.inside.mode ≢ 3 = search rules in
-        subst (λ (t : Touched). Touches t r q) (sym w.result-is) (trap_down_leaves r q c.args.cause c.args.tval c.take_trap.ensures (λ e. down (sym mode ∙ e)))
+      | in-M w ↦
+          let up : mode_word c.cpu.inside.mode ≡ 3 = search rules in
+          subst (λ (t : Touched). Touches t r q) (sym w.result-is) (trap_up_leaves r q c.args.cause c.args.tval c.take_trap.ensures (mode ∙ up))
+      | in-S w ↦
+          let down : mode_word c.cpu.inside.mode ≢ 3 = search rules in
+          subst (λ (t : Touched). Touches t r q) (sym w.result-is) (trap_down_leaves r q c.args.cause c.args.tval c.take_trap.ensures (λ e. down (sym mode ∙ e)))
     ]

@@ -1,7 +1,8 @@
 //! What one instruction asks for, and the ways to go on from it.
 
 ghost use Rattle.std.specs.Prelude.{◌≡◌, ◌<◌};
-ghost use Rattle.hv_exec.specs.Answer.{advanced, given, jumped, branched, passed, answered, KeepsUnlessDone, TouchesAsTold, IsInRange, Next};
+ghost use Rattle.hv_exec.specs.Answer.{advanced, given, jumped, branched, passed, answered, Next};
+ghost use Rattle.hv_exec.specs.Answer.{KeepsUnlessDone, TouchesAsTold, IsInRange};
 ghost use Rattle.hv_exec.specs.declared.answer.Task.TheVariants.{Trap as TrapTask};
 ghost use Rattle.hv_exec.specs.Touched.{Touches};
 

@@ -1,7 +1,8 @@
 //! Reading and writing a control register by its number.
 
-ghost use Rattle.std.specs.Prelude.{◌≡◌, OnErr};
+ghost use Rattle.std.specs.Prelude.{◌≡◌, ◌≢◌, ◌<◌, ℕ, Some, OnErr, slice_index};
 ghost use Rattle.std.specs.Result.{result_ok};
+ghost use Rattle.hv_cpu.specs.Regs.{Regs, spelled};
 ghost use Rattle.hv_csr.specs.Access.{csr_read_of, csr_write_of, is_barred, is_read_only, left_by};
 
 use crate::csr::Csr;
@@ -37,6 +38,19 @@ pub fn csr_write(cpu: &mut Cpu, number: u32, value: u32) -> Result<(), Illegal>
     let csr = Csr::find(number).ok_or(Illegal)?;
     csr.write(cpu, value);
     Ok(())
+}
+
+/// The word of the registers that a write of control register `number` can change, by its place in a control block: 0
+/// where it changes nothing, or there is no such register.
+pub fn word_written(number: u32) -> u32
+    ensures below { result < 49 }
+    ensures others { (r q : Regs) (v k : ℕ) → csr_write_of r number v ≡ Some q → k ≢ result
+        → slice_index (spelled q) k ≡ slice_index (spelled r) k }
+{
+    match Csr::find(number) {
+        Some(csr) => csr.word(),
+        None => 0,
+    }
 }
 
 // Whether the hart may not use the register: the mode is too low, or it is satp in S with TVM.

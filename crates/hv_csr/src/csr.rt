@@ -1,9 +1,10 @@
 //! The control registers: their numbers, what is read from each, and what a write leaves.
 
-ghost use Rattle.std.specs.Prelude.{◌≡◌, ℕ, ◌%◌, ◌<◌};
+ghost use Rattle.std.specs.Prelude.{◌≡◌, ◌≢◌, ℕ, ◌%◌, ◌<◌, slice_index};
 ghost use Rattle.std.specs.Int.RustNames.{bit_and};
 ghost use Rattle.hv_csr.specs.Table.{csr_of, row_of, merge, mpp_bits, vector as vector_of, on_word as word_of};
 ghost use Rattle.hv_word.specs.Words.{field_of};
+ghost use Rattle.hv_cpu.specs.Regs.{Regs, spelled};
 
 use crate::status;
 use hv_cpu::{Cpu, MEDELEG_MASK, MIDELEG_MASK, MIE_MASK, SATP_MASK};
@@ -144,6 +145,35 @@ impl Csr {
             Csr::Mip => cpu.mip = merged(cpu.mip, MIP_WRITABLE, value),
             // those that only tell something
             _ => {}
+        }
+    }
+
+    /// The word of the registers that a write can change, by its place in a control block: 0 for a register without a
+    /// state, whose write changes nothing.
+    pub fn word(self) -> u32
+        ensures below { result < 49 }
+        ensures others { (r : Regs) (v k : ℕ) → k ≢ result
+            → slice_index (spelled ((row_of self).write r v)) k ≡ slice_index (spelled r) k }
+    {
+        match self {
+            Csr::Sstatus | Csr::Mstatus => 33,
+            Csr::Mtvec => 34,
+            Csr::Mepc => 35,
+            Csr::Mcause => 36,
+            Csr::Mtval => 37,
+            Csr::Mscratch => 38,
+            Csr::Medeleg => 39,
+            Csr::Mideleg => 40,
+            Csr::Sie | Csr::Mie => 41,
+            Csr::Sip | Csr::Mip => 42,
+            Csr::Stvec => 43,
+            Csr::Sepc => 44,
+            Csr::Scause => 45,
+            Csr::Stval => 46,
+            Csr::Sscratch => 47,
+            Csr::Satp => 48,
+            // those without a state
+            _ => 0,
         }
     }
 }

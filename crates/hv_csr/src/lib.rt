@@ -8,7 +8,7 @@ pub mod laws;
 mod status;
 mod traps;
 
-pub use access::{Illegal, csr_read, csr_write};
+pub use access::{Illegal, csr_read, csr_write, word_written};
 pub use csr::Csr;
 pub use interrupts::pending;
 pub use traps::{mret, sret, take_trap};

@@ -65,7 +65,7 @@ differing_set (x ∷ xs) (y ∷ ys) zero v = omega (arith, flag_most x v)
 differing_set (x ∷ xs) (y ∷ ys) (suc i) v = omega (arith, differing_set xs ys i v)
 
 -- some words set, each by its index
-set_all : List ℕ → List (ℕ × ℕ) → List ℕ
+unfoldable pub set_all : List ℕ → List (ℕ × ℕ) → List ℕ
 set_all ys [] = ys
 set_all ys (p ∷ ps) = set_all (set ys p.0 p.1) ps
 
@@ -75,7 +75,7 @@ differing_all xs ys [] = omega arith
 differing_all xs ys (p ∷ ps) = omega (arith, differing_all xs (set ys p.0 p.1) ps, differing_set xs ys p.0 p.1)
 
 -- the first n words of a row, where the one with the number i is v and the first has the number k
-with_some : ℕ → List ℕ → ℕ → ℕ → ℕ → List ℕ
+unfoldable pub with_some : ℕ → List ℕ → ℕ → ℕ → ℕ → List ℕ
 with_some zero ys k i v = ys
 with_some (suc n) [] k i v = []
 with_some (suc n) (y ∷ ys) k i v = cond (i == k) v y ∷ with_some n ys (suc k) i v
@@ -148,7 +148,8 @@ few_pc : (n : ℕ) (r q : Regs) (v : ℕ) → Few n r q → Few (1 + n) r (recor
 unfolding set_all
 few_pc n r q v f = few_all n r q (record q { pc = v }) ((0, v) ∷ []) refl f
 
-abbrev trap_down : Regs → ℕ → Bool → ℕ → Regs
+-- the registers after a trap to S
+abbrev pub trap_down : Regs → ℕ → Bool → ℕ → Regs
 trap_down r cause interrupt tval = record r {
   pc = handler_of r.stvec cause interrupt;
   mode = 1;
@@ -158,7 +159,8 @@ trap_down r cause interrupt tval = record r {
   stval = tval;
 }
 
-abbrev trap_up : Regs → ℕ → Bool → ℕ → Regs
+-- the registers after a trap to M
+abbrev pub trap_up : Regs → ℕ → Bool → ℕ → Regs
 trap_up r cause interrupt tval = record r {
   pc = handler_of r.mtvec cause interrupt;
   mode = 3;
@@ -233,7 +235,8 @@ few_csr r number v = by (is_barred r number || is_read_only number)
     by true = tt
     by false = at (csr_of number)
 
-abbrev by_mret : Regs → Regs
+-- the registers after MRET
+abbrev pub by_mret : Regs → Regs
 by_mret r = record r {
   pc = r.mepc;
   mode = field_of r.mstatus 11 2;
@@ -248,7 +251,8 @@ few_mret r = by (r.mode == 3)
     by true = few_all 0 r r (by_mret r) ((0, r.mepc) ∷ (32, field_of r.mstatus 11 2) ∷ (33, unprivileged (left_m r.mstatus) (field_of r.mstatus 11 2)) ∷ []) refl (few_same r)
     by false = tt
 
-abbrev by_sret : Regs → Regs
+-- the registers after SRET
+abbrev pub by_sret : Regs → Regs
 by_sret r = record r {
   pc = r.sepc;
   mode = field_of r.mstatus 8 1;

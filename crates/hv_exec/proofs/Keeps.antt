@@ -7,7 +7,7 @@ use Rattle.hv_exec.specs.Answer.{KeepsUnlessDone}
 
 -- registers that nothing wrote
 pub keeps_same : (t : Task) (r : Regs) → KeepsUnlessDone t r r
-keeps_same Done r = tt
+keeps_same (Done _) r = tt
 keeps_same (Trap _ _) r = refl
 keeps_same (Load _ _ _ _) r = refl
 keeps_same (Store _ _ _) r = refl

@@ -6,6 +6,7 @@ use Rattle.hv_exec.specs.declared.answer.Width.{Width}
 use Rattle.hv_exec.specs.declared.answer.Task.{Task}
 use Rattle.hv_exec.specs.declared.answer.Task.TheVariants.{Done as DoneTask, Trap as TrapTask, Load as LoadTask}
 use Rattle.hv_exec.specs.declared.answer.Task.TheVariants.{Store as StoreTask, Enter as EnterTask}
+use Rattle.hv_exec.specs.Touched.{Touches}
 
 pub data Answer : Type 0 where
   -- the registers after it, with the program counter already on the next instruction or on the jump's target
@@ -51,7 +52,7 @@ branched r taken target = if taken then at_target r target else Next (advanced r
 
 -- what the code keeps of an answer beside the registers
 abbrev pub answered : Task → Regs → Answer
-answered DoneTask r = Next r
+answered (DoneTask _) r = Next r
 answered (TrapTask cause tval) r = Trap cause tval
 answered (LoadTask address width signed rd) r = Load address width signed rd
 answered (StoreTask address width value) r = Store address width value
@@ -59,15 +60,23 @@ answered (EnterTask value) r = Enter value
 
 -- the registers change only where the instruction is done
 abbrev pub KeepsUnlessDone : Task → Regs → Regs → Type 0
-KeepsUnlessDone DoneTask before after = Unit {0}
+KeepsUnlessDone (DoneTask _) before after = Unit {0}
 KeepsUnlessDone (TrapTask _ _) before after = after ≡ before
 KeepsUnlessDone (LoadTask _ _ _ _) before after = after ≡ before
 KeepsUnlessDone (StoreTask _ _ _) before after = after ≡ before
 KeepsUnlessDone (EnterTask _) before after = after ≡ before
 
+-- what a done instruction tells of the registers holds: it changed no other word of them
+abbrev pub TouchesAsTold : Task → Regs → Regs → Type 0
+TouchesAsTold (DoneTask touched) before after = Touches touched before after
+TouchesAsTold (TrapTask _ _) before after = Unit {0}
+TouchesAsTold (LoadTask _ _ _ _) before after = Unit {0}
+TouchesAsTold (StoreTask _ _ _) before after = Unit {0}
+TouchesAsTold (EnterTask _) before after = Unit {0}
+
 -- the numbers in it are in range
 abbrev pub IsInRange : Task → Type 0
-IsInRange DoneTask = Unit {0}
+IsInRange (DoneTask _) = Unit {0}
 IsInRange (TrapTask cause _) = cause < 16
 IsInRange (LoadTask _ _ _ rd) = rd < 32
 IsInRange (StoreTask _ _ _) = Unit {0}

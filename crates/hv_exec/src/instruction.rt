@@ -1,7 +1,8 @@
 //! One instruction of a machine over its storage.
 
-ghost use Rattle.std.specs.Prelude.{◌≡◌, ◌≢◌, ◌<◌, OnErr, IfErr, IfOk, length};
+ghost use Rattle.std.specs.Prelude.{◌≡◌, ◌≢◌, ◌<◌, false, OnErr, IfErr, IfOk, length};
 ghost use Rattle.hv_isa.specs.Table.{NamesRegs};
+ghost use Rattle.hv_csr.specs.Traps.{take_trap_of};
 ghost use Rattle.hv_store.specs.Space.{Keeps};
 ghost use Rattle.hv_sv32.specs.Walk.{walk_of};
 ghost use Rattle.hv_exec.specs.Do.{do_of};
@@ -9,11 +10,11 @@ ghost use Rattle.hv_exec.specs.Act.{act_of, acted, carried_out, load_at, store_a
 ghost use Rattle.hv_exec.specs.Kept.{ChangedNothing};
 ghost use Rattle.hv_exec.specs.Touched.{Touches};
 
-use crate::answer::{Task, Width, advance, give};
+use crate::answer::{Task, Width, advance, put};
 use crate::memory::{extend, lane};
 use crate::rows::perform;
 use crate::touched::Touched;
-use hv_cpu::Cpu;
+use hv_cpu::{Cpu, Mode};
 use hv_csr::take_trap;
 use hv_isa::{Instr, decode};
 use hv_store::{Access, Refusal, Space};
@@ -22,7 +23,6 @@ use hv_word::lane_get;
 
 /// Executes one instruction of a hart, or takes its trap. An error is the refusal of a word that was asked for; then
 /// nothing changed. At most one of its asks writes, and it is the last: the space need have room for one alone.
-#[tactic(auto, unfolding(crate::specs::Act::act_of, crate::specs::Act::fetch_at, crate::specs::Act::decoded))]
 #[inline(always)]
 pub fn act<S: Space>(cpu: &mut Cpu, hart: u32, space: &mut S) -> Result<(), Refusal>
     requires next { cpu.old.next ≡ 0 }
@@ -34,32 +34,14 @@ pub fn act<S: Space>(cpu: &mut Cpu, hart: u32, space: &mut S) -> Result<(), Refu
     ensures keeps { Keeps S.Space space.old space.new }
     ensures err { OnErr result (ChangedNothing S.Space space.old space.new cpu.old cpu.new) }
 {
-    let at = match translate(cpu, space, cpu.pc, Access::Fetch) {
-        Ok(at) => at,
-        Err(Stop::Trap { cause, tval }) => {
-            take_trap(cpu, cause, false, tval);
-            return Ok(());
-        }
-        Err(Stop::Refused(refusal)) => return Err(refusal),
-    };
-    let _pages = space.pages();
-    let word = space.read((at / 4096) as u32, (at % 4096 / 4) as u32, Access::Fetch)?;
-    match decode(word) {
-        Some(instr) => execute(cpu, hart, space, word, &instr),
-        None => {
-            take_trap(cpu, 2, false, word);
-            Ok(())
-        }
-    }
+    act_telling(cpu, hart, space)?;
+    Ok(())
 }
 
 /// The same, with what it may have changed of the registers.
+#[tactic(auto, unfolding(crate::specs::Act::act_of, crate::specs::Act::fetch_at, crate::specs::Act::decoded))]
 #[inline(always)]
-pub fn act_telling<S: Space>(
-    cpu: &mut Cpu,
-    hart: u32,
-    space: &mut S,
-) -> Result<Touched, Refusal>
+pub fn act_telling<S: Space>(cpu: &mut Cpu, hart: u32, space: &mut S) -> Result<Touched, Refusal>
     requires next { cpu.old.next ≡ 0 }
     requires room { 0 < S.room space.old }
     ensures acts { acted result (S.storage space.new) cpu.new
@@ -70,8 +52,17 @@ pub fn act_telling<S: Space>(
     ensures keeps { Keeps S.Space space.old space.new }
     ensures err { OnErr result (ChangedNothing S.Space space.old space.new cpu.old cpu.new) }
 {
-    act(cpu, hart, space)?;
-    Ok(Touched::Any)
+    let at = match translate(cpu, space, cpu.pc, Access::Fetch) {
+        Ok(at) => at,
+        Err(Stop::Trap { cause, tval }) => return Ok(trap(cpu, cause, tval)),
+        Err(Stop::Refused(refusal)) => return Err(refusal),
+    };
+    let _pages = space.pages();
+    let word = space.read((at / 4096) as u32, (at % 4096 / 4) as u32, Access::Fetch)?;
+    match decode(word) {
+        Some(instr) => execute(cpu, hart, space, word, &instr),
+        None => Ok(trap(cpu, 2, word)),
+    }
 }
 
 // Executes an instruction whose word was fetched.
@@ -83,23 +74,21 @@ fn execute<S: Space>(
     space: &mut S,
     word: u32,
     instr: &Instr,
-) -> Result<(), Refusal>
+) -> Result<Touched, Refusal>
     requires regs { NamesRegs instr.now }
     requires next { cpu.old.next ≡ 0 }
     requires room { 0 < S.room space.old }
     ensures acts { acted result (S.storage space.new) cpu.new
         ≡ carried_out (S.storage space.old) (S.slots space.old) cpu.old (do_of instr.now word cpu.old hart) }
+    ensures touches { IfOk result (λ touched. Touches touched cpu.old cpu.new) }
     ensures next { cpu.new.next ≢ 0 → cpu.new.next < length (S.slots space.old) }
     ensures level { IfErr result (λ e. e.level < S.depth space.old) }
     ensures keeps { Keeps S.Space space.old space.new }
     ensures err { OnErr result (ChangedNothing S.Space space.old space.new cpu.old cpu.new) }
 {
     match perform(cpu, hart, word, instr) {
-        Task::Done => Ok(()),
-        Task::Trap { cause, tval } => {
-            take_trap(cpu, cause, false, tval);
-            Ok(())
-        }
+        Task::Done { touched } => Ok(touched),
+        Task::Trap { cause, tval } => Ok(trap(cpu, cause, tval)),
         Task::Load {
             address,
             width,
@@ -124,13 +113,14 @@ fn load<S: Space>(
     width: Width,
     signed: bool,
     rd: u8,
-) -> Result<(), Refusal>
+) -> Result<Touched, Refusal>
     requires rd { rd < 32 }
     requires next { cpu.old.next ≡ 0 }
     requires room { 0 < S.room space.old }
     ensures acts { acted result (S.storage space.new) cpu.new
         ≡ load_at (S.storage space.old) (S.slots space.old) cpu.old address width signed rd
         (walk_of (S.storage space.old) (S.slots space.old) cpu.old address Access.Read) }
+    ensures touches { IfOk result (λ touched. Touches touched cpu.old cpu.new) }
     ensures next { cpu.new.next ≢ 0 → cpu.new.next < length (S.slots space.old) }
     ensures level { IfErr result (λ e. e.level < S.depth space.old) }
     ensures keeps { Keeps S.Space space.old space.new }
@@ -138,18 +128,14 @@ fn load<S: Space>(
 {
     let at = match translate(cpu, space, address, Access::Read) {
         Ok(at) => at,
-        Err(Stop::Trap { cause, tval }) => {
-            take_trap(cpu, cause, false, tval);
-            return Ok(());
-        }
+        Err(Stop::Trap { cause, tval }) => return Ok(trap(cpu, cause, tval)),
         Err(Stop::Refused(refusal)) => return Err(refusal),
     };
     let _pages = space.pages();
     let offset = (at % 4096) as u32;
     let word = space.read((at / 4096) as u32, offset / 4, Access::Read)?;
     let value = lane_get(word, lane(width, offset));
-    give(cpu, rd, extend(width, signed, value));
-    Ok(())
+    Ok(put(cpu, rd, extend(width, signed, value)))
 }
 
 // Stores a value's low bits at an aligned address.
@@ -160,12 +146,13 @@ fn store<S: Space>(
     address: u32,
     width: Width,
     value: u32,
-) -> Result<(), Refusal>
+) -> Result<Touched, Refusal>
     requires next { cpu.old.next ≡ 0 }
     requires room { 0 < S.room space.old }
     ensures acts { acted result (S.storage space.new) cpu.new
         ≡ store_at (S.storage space.old) (S.slots space.old) cpu.old address width value
         (walk_of (S.storage space.old) (S.slots space.old) cpu.old address Access.Write) }
+    ensures touches { IfOk result (λ touched. Touches touched cpu.old cpu.new) }
     ensures next { cpu.new.next ≢ 0 → cpu.new.next < length (S.slots space.old) }
     ensures level { IfErr result (λ e. e.level < S.depth space.old) }
     ensures keeps { Keeps S.Space space.old space.new }
@@ -173,41 +160,51 @@ fn store<S: Space>(
 {
     let at = match translate(cpu, space, address, Access::Write) {
         Ok(at) => at,
-        Err(Stop::Trap { cause, tval }) => {
-            take_trap(cpu, cause, false, tval);
-            return Ok(());
-        }
+        Err(Stop::Trap { cause, tval }) => return Ok(trap(cpu, cause, tval)),
         Err(Stop::Refused(refusal)) => return Err(refusal),
     };
     let _pages = space.pages();
     let offset = (at % 4096) as u32;
     space.write((at / 4096) as u32, offset / 4, lane(width, offset), value)?;
-    advance(cpu);
-    Ok(())
+    Ok(advance(cpu))
 }
 
 // Makes the machine whose block is in the page at the address `value` the one to run.
-fn enter<S: Space>(cpu: &mut Cpu, space: &mut S, value: u32) -> Result<(), Refusal>
+fn enter<S: Space>(cpu: &mut Cpu, space: &mut S, value: u32) -> Result<Touched, Refusal>
     requires next { cpu.old.next ≡ 0 }
     requires room { 0 < S.room space.old }
     ensures acts { acted result (S.storage space.new) cpu.new
         ≡ enter_at (S.storage space.old) (S.slots space.old) cpu.old value }
+    ensures touches { IfOk result (λ touched. Touches touched cpu.old cpu.new) }
     ensures next { cpu.new.next ≢ 0 → cpu.new.next < length (S.slots space.old) }
     ensures level { IfErr result (λ e. e.level < S.depth space.old) }
     ensures keeps { Keeps S.Space space.old space.new }
     ensures err { OnErr result (ChangedNothing S.Space space.old space.new cpu.old cpu.new) }
 {
     if value % 4096 != 0 {
-        take_trap(cpu, 6, false, value);
-        return Ok(());
+        return Ok(trap(cpu, 6, value));
     }
     let page = value / 4096;
     if page == 0 || page >= space.pages() {
-        take_trap(cpu, 7, false, value);
-        return Ok(());
+        return Ok(trap(cpu, 7, value));
     }
     space.clear_fault(page)?;
     cpu.next = Some(page);
     advance(cpu);
-    Ok(())
+    Ok(Touched::Any)
+}
+
+// Takes the trap of an exception, and tells what that touches.
+#[inline(always)]
+fn trap(cpu: &mut Cpu, cause: u32, tval: u32) -> Touched
+    requires { cause < 16 }
+    ensures traps { cpu.new ≡ take_trap_of cpu.old cause false tval }
+    ensures touches { Touches result cpu.old cpu.new }
+    ensures next { cpu.new.next ≡ cpu.old.next }
+{
+    take_trap(cpu, cause, false, tval);
+    match cpu.mode {
+        Mode::M => Touched::TrapToM,
+        Mode::S | Mode::U => Touched::TrapToS,
+    }
 }

@@ -3,7 +3,7 @@
 ghost use Rattle.std.specs.Prelude.{◌≡◌, ◌<◌, ◌≤◌};
 ghost use Rattle.hv_word.specs.Words.{IsLane};
 ghost use Rattle.hv_cpu.specs.Regs.{Regs};
-ghost use Rattle.hv_exec.specs.Answer.{answered, IsInRange};
+ghost use Rattle.hv_exec.specs.Answer.{answered, TouchesAsTold, IsInRange};
 ghost use Rattle.hv_exec.specs.Memory.{width_bytes, loading, storing, lane_at, extended};
 
 use crate::answer::{Task, Width};
@@ -15,6 +15,7 @@ use hv_word::{Lane, sext};
 pub(crate) fn load(address: u32, width: Width, signed: bool, rd: u8) -> Task
     requires { rd < 32 }
     ensures does { (r : Regs) → answered result r ≡ loading address width signed rd }
+    ensures touches { (r : Regs) → TouchesAsTold result r r }
     ensures range { IsInRange result }
 {
     if address % bytes(width) != 0 {
@@ -36,6 +37,7 @@ pub(crate) fn load(address: u32, width: Width, signed: bool, rd: u8) -> Task
 #[inline(always)]
 pub(crate) fn store(address: u32, width: Width, value: u32) -> Task
     ensures does { (r : Regs) → answered result r ≡ storing address width value }
+    ensures touches { (r : Regs) → TouchesAsTold result r r }
     ensures range { IsInRange result }
 {
     if address % bytes(width) != 0 {

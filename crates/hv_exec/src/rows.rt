@@ -2,7 +2,7 @@
 
 ghost use Rattle.std.specs.Prelude.{◌≡◌};
 ghost use Rattle.hv_isa.specs.Table.{NamesRegs};
-ghost use Rattle.hv_exec.specs.Answer.{answered, KeepsUnlessDone, IsInRange};
+ghost use Rattle.hv_exec.specs.Answer.{answered, KeepsUnlessDone, TouchesAsTold, IsInRange};
 ghost use Rattle.hv_exec.specs.Do.{do_of};
 
 use crate::answer::{Task, Width, branch, give, jump, pass};
@@ -19,6 +19,7 @@ pub(crate) fn perform(cpu: &mut Cpu, hart: u32, word: u32, instr: &Instr) -> Tas
     requires { NamesRegs instr.now }
     ensures does { answered result cpu.new ≡ do_of instr.now word cpu.old hart }
     ensures keeps { KeepsUnlessDone result cpu.old cpu.new }
+    ensures touches { TouchesAsTold result cpu.old cpu.new }
     ensures range { IsInRange result }
     ensures next { cpu.new.next ≡ cpu.old.next }
 {

@@ -2,13 +2,14 @@
 
 ghost use Rattle.std.specs.Prelude.{◌≡◌, ◌<◌};
 ghost use Rattle.hv_csr.specs.Traps.{mret_of, sret_of};
-ghost use Rattle.hv_exec.specs.Answer.{answered, KeepsUnlessDone, IsInRange};
+ghost use Rattle.hv_exec.specs.Answer.{answered, KeepsUnlessDone, TouchesAsTold, IsInRange};
 ghost use Rattle.hv_exec.specs.System.{new_value, csr_row, returned, may_wait, may_fence, called, entering};
 
-use crate::answer::{Task, give, illegal};
+use crate::answer::{Task, give, illegal, put};
+use crate::touched::Touched;
 use hv_cpu::mstatus::{TVM, TW};
 use hv_cpu::{Cpu, Mode};
-use hv_csr::{csr_read, csr_write};
+use hv_csr::{csr_read, csr_write, word_written};
 use hv_isa::Instr;
 use hv_word::field;
 
@@ -33,6 +34,7 @@ pub(crate) fn update_csr(
     requires { instr.now.rd < 32 }
     ensures does { answered result cpu.new ≡ csr_row update source instr.now word cpu.old hart }
     ensures keeps { KeepsUnlessDone result cpu.old cpu.new }
+    ensures touches { TouchesAsTold result cpu.old cpu.new }
     ensures range { IsInRange result }
     ensures next { cpu.new.next ≡ cpu.old.next }
 {
@@ -43,6 +45,13 @@ pub(crate) fn update_csr(
         if csr_write(cpu, instr.imm, value).is_err() {
             return illegal(word);
         }
+        put(cpu, instr.rd, old);
+        return Task::Done {
+            touched: Touched::Csr {
+                register: instr.rd as u32,
+                word: word_written(instr.imm),
+            },
+        };
     }
     give(cpu, instr.rd, old)
 }
@@ -64,11 +73,14 @@ fn updated(update: Update, field: u8, old: u32, source: u32) -> Option<u32>
 pub(crate) fn mret(cpu: &mut Cpu, word: u32) -> Task
     ensures does { answered result cpu.new ≡ returned (mret_of cpu.old) word }
     ensures keeps { KeepsUnlessDone result cpu.old cpu.new }
+    ensures touches { TouchesAsTold result cpu.old cpu.new }
     ensures range { IsInRange result }
     ensures next { cpu.new.next ≡ cpu.old.next }
 {
     match hv_csr::mret(cpu) {
-        Ok(()) => Task::Done,
+        Ok(()) => Task::Done {
+            touched: Touched::Return,
+        },
         Err(_) => illegal(word),
     }
 }
@@ -78,11 +90,14 @@ pub(crate) fn mret(cpu: &mut Cpu, word: u32) -> Task
 pub(crate) fn sret(cpu: &mut Cpu, word: u32) -> Task
     ensures does { answered result cpu.new ≡ returned (sret_of cpu.old) word }
     ensures keeps { KeepsUnlessDone result cpu.old cpu.new }
+    ensures touches { TouchesAsTold result cpu.old cpu.new }
     ensures range { IsInRange result }
     ensures next { cpu.new.next ≡ cpu.old.next }
 {
     match hv_csr::sret(cpu) {
-        Ok(()) => Task::Done,
+        Ok(()) => Task::Done {
+            touched: Touched::Return,
+        },
         Err(_) => illegal(word),
     }
 }
@@ -116,6 +131,7 @@ pub(crate) fn may_fence(cpu: &Cpu) -> bool
 #[inline(always)]
 pub(crate) fn call(cpu: &Cpu) -> Task
     ensures does { answered result cpu.now ≡ called cpu.now }
+    ensures touches { TouchesAsTold result cpu.now cpu.now }
     ensures range { IsInRange result }
 {
     let cause = match cpu.mode {
@@ -132,6 +148,7 @@ pub(crate) fn call(cpu: &Cpu) -> Task
 pub(crate) fn enter(cpu: &Cpu, word: u32, value: u32) -> Task
     ensures does { answered result cpu.now ≡ entering cpu.now value word }
     ensures keeps { KeepsUnlessDone result cpu.now cpu.now }
+    ensures touches { TouchesAsTold result cpu.now cpu.now }
     ensures range { IsInRange result }
 {
     match cpu.mode {

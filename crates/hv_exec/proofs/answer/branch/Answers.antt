@@ -1,0 +1,6 @@
+use Rattle.std.proofs.Common.{rules, arith}
+use Rattle.hv_exec.proofs.Leaves.{pc_leaves}
+use Rattle.hv_exec.proofs.answer.branch.Goals as goal
+
+pub returns-clause-touches : goal.returns-clause-touches
+returns-clause-touches c = (omega arith, pc_leaves c.args.cpu.now _ c.args.target (search rules))

@@ -1,5 +1,5 @@
 -- Only the words that may have changed are put.
-use Rattle.std.proofs.Common.{◌≡◌, ◌≢◌, ℕ, zero, suc, ◌+◌, ◌-◌, ◌*◌, ◌<◌, ◌≤◌, ◌⊎◌, inl, inr, Bool, true, false, cond, List, [], ◌∷◌, ◌++◌, length, take, drop, set, get_or, refl, ap, ◌∙◌, sym, arith, length-set, get_or-set_same, get_or-set_other, eqb-true, subst}
+use Rattle.std.proofs.Common.{◌≡◌, ◌≢◌, ℕ, zero, suc, ◌+◌, ◌-◌, ◌*◌, ◌<◌, ◌≤◌, ◌⊎◌, inl, inr, Bool, true, false, cond, List, [], ◌∷◌, length, take, drop, set, get_or, refl, ap, ◌∙◌, sym, arith, length-set, get_or-set_same, get_or-set_other, eqb-true, subst}
 use Rattle.std.specs.Prelude.{◌==◌, ◌||◌}
 use Rattle.std.proofs.Math.Seq.{sets, drop-cons, length-sets}
 use Rattle.std.proofs.lemmas.List.{ext_get_or, get_or_append_left}

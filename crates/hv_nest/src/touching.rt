@@ -41,7 +41,7 @@ pub fn put_touched(store: &mut Store, notes: &mut Notes, page: u32, cpu: &Cpu, t
     }
 }
 
-// All words.
+// Puts all words.
 #[inline(never)]
 fn put_all(store: &mut Store, notes: &mut Notes, page: u32, cpu: &Cpu)
     requires page { page < page_count store.old }
@@ -53,7 +53,7 @@ fn put_all(store: &mut Store, notes: &mut Notes, page: u32, cpu: &Cpu)
     put_cpu(store, notes, page, cpu);
 }
 
-// pc, and a register.
+// Puts pc and a register; of x0 there is no word.
 #[inline(always)]
 fn put_file(store: &mut Store, notes: &mut Notes, page: u32, cpu: &Cpu, register: u32)
     requires page { page < page_count store.old }
@@ -71,8 +71,8 @@ fn put_file(store: &mut Store, notes: &mut Notes, page: u32, cpu: &Cpu, register
     }
 }
 
-// The same, and a control register.
-#[inline(always)]
+// Puts pc, a register, and the mode or a control register.
+#[inline(never)]
 fn put_csr(store: &mut Store, notes: &mut Notes, page: u32, cpu: &Cpu, register: u32, word: u32)
     requires page { page < page_count store.old }
     requires register { register < 32 }
@@ -89,7 +89,7 @@ fn put_csr(store: &mut Store, notes: &mut Notes, page: u32, cpu: &Cpu, register:
     put_word(store, notes, page, word, control_word(cpu, word));
 }
 
-// What a trap to M writes.
+// Puts what a trap to M writes: pc, mode, mstatus, mepc, mcause and mtval.
 #[inline(never)]
 fn put_trap_to_m(store: &mut Store, notes: &mut Notes, page: u32, cpu: &Cpu)
     requires page { page < page_count store.old }
@@ -106,7 +106,7 @@ fn put_trap_to_m(store: &mut Store, notes: &mut Notes, page: u32, cpu: &Cpu)
     put_word(store, notes, page, 37, cpu.mtval);
 }
 
-// What a trap to S writes.
+// Puts what a trap to S writes: pc, mode, mstatus, sepc, scause and stval.
 #[inline(never)]
 fn put_trap_to_s(store: &mut Store, notes: &mut Notes, page: u32, cpu: &Cpu)
     requires page { page < page_count store.old }
@@ -123,8 +123,8 @@ fn put_trap_to_s(store: &mut Store, notes: &mut Notes, page: u32, cpu: &Cpu)
     put_word(store, notes, page, 46, cpu.stval);
 }
 
-// What MRET and SRET write: pc, mode and mstatus.
-#[inline(always)]
+// Puts what MRET and SRET write: pc, mode and mstatus.
+#[inline(never)]
 fn put_return(store: &mut Store, notes: &mut Notes, page: u32, cpu: &Cpu)
     requires page { page < page_count store.old }
     requires room { length notes.old + changed_words (regs_at (undone store.old notes.old) page) cpu.now (0 ∷ 32 ∷ 33 ∷ [])
@@ -139,7 +139,7 @@ fn put_return(store: &mut Store, notes: &mut Notes, page: u32, cpu: &Cpu)
     put_word(store, notes, page, 33, cpu.mstatus);
 }
 
-// One word of a page.
+// Puts one word of a page, and notes it where it changes.
 #[inline(always)]
 fn put_word(store: &mut Store, notes: &mut Notes, page: u32, word: u32, value: u32)
     requires page { page < page_count store.old }

@@ -1,9 +1,7 @@
 -- The touched words are those that changed.
-use Rattle.std.proofs.Common.{◌≡◌, ℕ, ◌<◌, ◌≤◌, List, [], ◌∷◌, ◌∙◌, false, arith}
-use Rattle.hv_word.specs.Words.{has}
+use Rattle.std.proofs.Common.{ℕ, List, [], ◌∷◌, ◌∙◌, arith}
 use Rattle.hv_cpu.specs.Regs.{Regs}
 use Rattle.hv_block.specs.Block.{regs_at}
-use Rattle.hv_exec.specs.Touched.{AreAsBut}
 use Rattle.hv_exec.specs.declared.touched.Touched.TheVariants.{File, Csr, TrapToM, TrapToS, Return}
 use Rattle.hv_nest.specs.Notes.{undone}
 use Rattle.hv_nest.specs.Touching.{csr_words, file_words}

@@ -13,7 +13,7 @@ use Rattle.hv_block.proofs.Words.{sets_at, sets_outside, length-put_regs}
 use Rattle.hv_exec.specs.Changes.{changed_regs, differing}
 use Rattle.hv_exec.specs.Touched.{AreAsBut, Touches}
 use Rattle.hv_exec.specs.declared.touched.Touched.{Touched}
-use Rattle.hv_nest.specs.Touching.{changed_word, changed_words, csr_words, file_words, with_words}
+use Rattle.hv_nest.specs.Touching.{changed_word, changed_words, csr_words, file_words, return_words, trap_to_m_words, trap_to_s_words, with_words}
 
 -- places of registers, of which each is above those before it, from j on
 abbrev pub Rising : ℕ → List ℕ → Type 0
@@ -232,15 +232,15 @@ csr_rises i w h k l = by (i == 0) refl
         let ne : i ≢ 0 = eqb-false i 0 e in
         (omega arith, omega arith, (omega arith, omega arith, (omega arith, omega arith, tt)))
 
-pub machine_rises : Rising 0 (0 ∷ 32 ∷ 33 ∷ 35 ∷ 36 ∷ 37 ∷ [])
-machine_rises =
+pub trap_to_m_rises : Rising 0 trap_to_m_words
+trap_to_m_rises =
     (omega arith, omega arith, (omega arith, omega arith, (omega arith, omega arith, (omega arith, omega arith, (omega arith, omega arith, (omega arith, omega arith, tt))))))
 
-pub supervisor_rises : Rising 0 (0 ∷ 32 ∷ 33 ∷ 44 ∷ 45 ∷ 46 ∷ [])
-supervisor_rises =
+pub trap_to_s_rises : Rising 0 trap_to_s_words
+trap_to_s_rises =
     (omega arith, omega arith, (omega arith, omega arith, (omega arith, omega arith, (omega arith, omega arith, (omega arith, omega arith, (omega arith, omega arith, tt))))))
 
-pub return_rises : Rising 0 (0 ∷ 32 ∷ 33 ∷ [])
+pub return_rises : Rising 0 return_words
 return_rises = (omega arith, omega arith, (omega arith, omega arith, (omega arith, omega arith, tt)))
 
 -- a word that is named twice

@@ -1,6 +1,6 @@
 //! What an instruction may have changed of the registers is put into their control block, and nothing else.
 
-ghost use Rattle.std.specs.Prelude.{◌≡◌, ◌+◌, ◌*◌, ◌<◌, ◌≤◌, ◌∷◌, [], length, slice_index};
+ghost use Rattle.std.specs.Prelude.{◌≡◌, ◌+◌, ◌*◌, ◌<◌, ◌≤◌, length, slice_index};
 ghost use Rattle.hv_word.specs.Storage.{page_count, word_at, with_word};
 ghost use Rattle.hv_cpu.specs.Regs.{spelled};
 ghost use Rattle.hv_block.specs.Block.{regs_at, put_regs};
@@ -8,7 +8,8 @@ ghost use Rattle.hv_exec.specs.Changes.{changed_regs};
 ghost use Rattle.hv_exec.specs.Touched.{Touches};
 ghost use Rattle.hv_nest.specs.Notes.{undone};
 ghost use Rattle.hv_nest.specs.Rows.{rows_limit};
-ghost use Rattle.hv_nest.specs.Touching.{with_words, changed_word, changed_words, file_words, csr_words};
+ghost use Rattle.hv_nest.specs.Touching.{with_words, changed_word, changed_words};
+ghost use Rattle.hv_nest.specs.Touching.{file_words, csr_words, trap_to_m_words, trap_to_s_words, return_words};
 
 use crate::notes::Notes;
 use crate::noting::put_cpu;
@@ -16,8 +17,8 @@ use hv_cpu::Cpu;
 use hv_exec::Touched;
 use hv_store::Store;
 
-/// Puts the registers into the control block in bare page `page`, where they are those that stand there but for the touched
-/// words, and notes what changes.
+/// Puts the registers into the control block in bare page `page`, where they are those that stand there but for the
+/// touched words, and notes what changes.
 #[inline(always)]
 pub fn put_touched(store: &mut Store, notes: &mut Notes, page: u32, cpu: &Cpu, touched: Touched)
     requires page { page < page_count store.old }
@@ -25,7 +26,8 @@ pub fn put_touched(store: &mut Store, notes: &mut Notes, page: u32, cpu: &Cpu, t
     requires touches { Touches touched (regs_at store.old page) cpu.now }
     ensures put { store.new ≡ put_regs store.old page cpu.now }
     ensures origin { undone store.new notes.new ≡ undone store.old notes.old }
-    ensures count { length notes.new ≤ length notes.old + changed_regs (regs_at (undone store.old notes.old) page) cpu.now }
+    ensures count { length notes.new
+        ≤ length notes.old + changed_regs (regs_at (undone store.old notes.old) page) cpu.now }
 {
     match touched {
         Touched::File { register } => put_file(store, notes, page, cpu, register),
@@ -48,7 +50,8 @@ fn put_all(store: &mut Store, notes: &mut Notes, page: u32, cpu: &Cpu)
     requires room { length notes.old + changed_regs (regs_at (undone store.old notes.old) page) cpu.now ≤ rows_limit }
     ensures put { store.new ≡ put_regs store.old page cpu.now }
     ensures origin { undone store.new notes.new ≡ undone store.old notes.old }
-    ensures count { length notes.new ≤ length notes.old + changed_regs (regs_at (undone store.old notes.old) page) cpu.now }
+    ensures count { length notes.new
+        ≤ length notes.old + changed_regs (regs_at (undone store.old notes.old) page) cpu.now }
 {
     put_cpu(store, notes, page, cpu);
 }
@@ -58,8 +61,8 @@ fn put_all(store: &mut Store, notes: &mut Notes, page: u32, cpu: &Cpu)
 fn put_file(store: &mut Store, notes: &mut Notes, page: u32, cpu: &Cpu, register: u32)
     requires page { page < page_count store.old }
     requires register { register < 32 }
-    requires room { length notes.old + changed_words (regs_at (undone store.old notes.old) page) cpu.now (file_words register)
-        ≤ rows_limit }
+    requires room { length notes.old
+        + changed_words (regs_at (undone store.old notes.old) page) cpu.now (file_words register) ≤ rows_limit }
     ensures put { store.new ≡ with_words store.old page cpu.now (file_words register) }
     ensures origin { undone store.new notes.new ≡ undone store.old notes.old }
     ensures count { length notes.new
@@ -78,12 +81,12 @@ fn put_csr(store: &mut Store, notes: &mut Notes, page: u32, cpu: &Cpu, register:
     requires register { register < 32 }
     requires control { 32 ≤ word }
     requires word { word < 49 }
-    requires room { length notes.old + changed_words (regs_at (undone store.old notes.old) page) cpu.now (csr_words register word)
-        ≤ rows_limit }
+    requires room { length notes.old
+        + changed_words (regs_at (undone store.old notes.old) page) cpu.now (csr_words register word) ≤ rows_limit }
     ensures put { store.new ≡ with_words store.old page cpu.now (csr_words register word) }
     ensures origin { undone store.new notes.new ≡ undone store.old notes.old }
-    ensures count { length notes.new
-        ≤ length notes.old + changed_words (regs_at (undone store.old notes.old) page) cpu.now (csr_words register word) }
+    ensures count { length notes.new ≤ length notes.old
+        + changed_words (regs_at (undone store.old notes.old) page) cpu.now (csr_words register word) }
 {
     put_file(store, notes, page, cpu, register);
     put_word(store, notes, page, word, control_word(cpu, word));
@@ -94,11 +97,11 @@ fn put_csr(store: &mut Store, notes: &mut Notes, page: u32, cpu: &Cpu, register:
 fn put_trap_to_m(store: &mut Store, notes: &mut Notes, page: u32, cpu: &Cpu)
     requires page { page < page_count store.old }
     requires room { length notes.old
-        + changed_words (regs_at (undone store.old notes.old) page) cpu.now (0 ∷ 32 ∷ 33 ∷ 35 ∷ 36 ∷ 37 ∷ []) ≤ rows_limit }
-    ensures put { store.new ≡ with_words store.old page cpu.now (0 ∷ 32 ∷ 33 ∷ 35 ∷ 36 ∷ 37 ∷ []) }
+        + changed_words (regs_at (undone store.old notes.old) page) cpu.now trap_to_m_words ≤ rows_limit }
+    ensures put { store.new ≡ with_words store.old page cpu.now trap_to_m_words }
     ensures origin { undone store.new notes.new ≡ undone store.old notes.old }
-    ensures count { length notes.new ≤ length notes.old
-        + changed_words (regs_at (undone store.old notes.old) page) cpu.now (0 ∷ 32 ∷ 33 ∷ 35 ∷ 36 ∷ 37 ∷ []) }
+    ensures count { length notes.new
+        ≤ length notes.old + changed_words (regs_at (undone store.old notes.old) page) cpu.now trap_to_m_words }
 {
     put_return(store, notes, page, cpu);
     put_word(store, notes, page, 35, cpu.mepc);
@@ -111,11 +114,11 @@ fn put_trap_to_m(store: &mut Store, notes: &mut Notes, page: u32, cpu: &Cpu)
 fn put_trap_to_s(store: &mut Store, notes: &mut Notes, page: u32, cpu: &Cpu)
     requires page { page < page_count store.old }
     requires room { length notes.old
-        + changed_words (regs_at (undone store.old notes.old) page) cpu.now (0 ∷ 32 ∷ 33 ∷ 44 ∷ 45 ∷ 46 ∷ []) ≤ rows_limit }
-    ensures put { store.new ≡ with_words store.old page cpu.now (0 ∷ 32 ∷ 33 ∷ 44 ∷ 45 ∷ 46 ∷ []) }
+        + changed_words (regs_at (undone store.old notes.old) page) cpu.now trap_to_s_words ≤ rows_limit }
+    ensures put { store.new ≡ with_words store.old page cpu.now trap_to_s_words }
     ensures origin { undone store.new notes.new ≡ undone store.old notes.old }
-    ensures count { length notes.new ≤ length notes.old
-        + changed_words (regs_at (undone store.old notes.old) page) cpu.now (0 ∷ 32 ∷ 33 ∷ 44 ∷ 45 ∷ 46 ∷ []) }
+    ensures count { length notes.new
+        ≤ length notes.old + changed_words (regs_at (undone store.old notes.old) page) cpu.now trap_to_s_words }
 {
     put_return(store, notes, page, cpu);
     put_word(store, notes, page, 44, cpu.sepc);
@@ -127,12 +130,12 @@ fn put_trap_to_s(store: &mut Store, notes: &mut Notes, page: u32, cpu: &Cpu)
 #[inline(never)]
 fn put_return(store: &mut Store, notes: &mut Notes, page: u32, cpu: &Cpu)
     requires page { page < page_count store.old }
-    requires room { length notes.old + changed_words (regs_at (undone store.old notes.old) page) cpu.now (0 ∷ 32 ∷ 33 ∷ [])
-        ≤ rows_limit }
-    ensures put { store.new ≡ with_words store.old page cpu.now (0 ∷ 32 ∷ 33 ∷ []) }
+    requires room { length notes.old
+        + changed_words (regs_at (undone store.old notes.old) page) cpu.now return_words ≤ rows_limit }
+    ensures put { store.new ≡ with_words store.old page cpu.now return_words }
     ensures origin { undone store.new notes.new ≡ undone store.old notes.old }
     ensures count { length notes.new
-        ≤ length notes.old + changed_words (regs_at (undone store.old notes.old) page) cpu.now (0 ∷ 32 ∷ 33 ∷ []) }
+        ≤ length notes.old + changed_words (regs_at (undone store.old notes.old) page) cpu.now return_words }
 {
     put_word(store, notes, page, 0, cpu.pc);
     put_word(store, notes, page, 32, cpu.mode.word());
@@ -144,10 +147,12 @@ fn put_return(store: &mut Store, notes: &mut Notes, page: u32, cpu: &Cpu)
 fn put_word(store: &mut Store, notes: &mut Notes, page: u32, word: u32, value: u32)
     requires page { page < page_count store.old }
     requires word { word < 1024 }
-    requires room { length notes.old + changed_word (word_at (undone store.old notes.old) page word) value ≤ rows_limit }
+    requires room { length notes.old
+        + changed_word (word_at (undone store.old notes.old) page word) value ≤ rows_limit }
     ensures put { store.new ≡ with_word store.old page word value }
     ensures origin { undone store.new notes.new ≡ undone store.old notes.old }
-    ensures count { length notes.new ≤ length notes.old + changed_word (word_at (undone store.old notes.old) page word) value }
+    ensures count { length notes.new
+        ≤ length notes.old + changed_word (word_at (undone store.old notes.old) page word) value }
 {
     let _pages = store.pages();
     notes.put(store, 1024 * page + word, value);

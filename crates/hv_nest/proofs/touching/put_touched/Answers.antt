@@ -4,8 +4,8 @@ use Rattle.hv_cpu.specs.Regs.{Regs}
 use Rattle.hv_block.specs.Block.{regs_at}
 use Rattle.hv_exec.specs.declared.touched.Touched.TheVariants.{File, Csr, TrapToM, TrapToS, Return}
 use Rattle.hv_nest.specs.Notes.{undone}
-use Rattle.hv_nest.specs.Touching.{csr_words, file_words}
-use Rattle.hv_nest.proofs.TouchedWords.{all_said, bare_named, csr_named, csr_rises, few_words, file_named, file_rises, machine_rises, return_rises, supervisor_rises, told_of}
+use Rattle.hv_nest.specs.Touching.{csr_words, file_words, return_words, trap_to_m_words, trap_to_s_words}
+use Rattle.hv_nest.proofs.TouchedWords.{all_said, bare_named, csr_named, csr_rises, few_words, file_named, file_rises, return_rises, trap_to_m_rises, trap_to_s_rises, told_of}
 use Rattle.hv_nest.proofs.touching.put_touched.Goals as goal
 
 pub put_file-requires-clause-room : goal.put_file-requires-clause-room
@@ -94,14 +94,14 @@ put_trap_to_m-requires-clause-room c =
     let O : List ℕ = undone c.args.store.now c.args.notes.now in
     let g : ℕ = c.args.page in
     let q : Regs = c.args.cpu.now in
-    omega (arith, few_words (regs_at O g) q (0 ∷ 32 ∷ 33 ∷ 35 ∷ 36 ∷ 37 ∷ []) (machine_rises))
+    omega (arith, few_words (regs_at O g) q trap_to_m_words trap_to_m_rises)
 
 pub returns-in-TrapToM-clause-count : goal.returns-in-TrapToM-clause-count
 returns-in-TrapToM-clause-count c =
     let O : List ℕ = undone c.args.store.now c.args.notes.now in
     let g : ℕ = c.args.page in
     let q : Regs = c.args.cpu.now in
-    omega (arith, few_words (regs_at O g) q (0 ∷ 32 ∷ 33 ∷ 35 ∷ 36 ∷ 37 ∷ []) (machine_rises), c.put_trap_to_m.ensures.count)
+    omega (arith, few_words (regs_at O g) q trap_to_m_words trap_to_m_rises, c.put_trap_to_m.ensures.count)
 
 pub returns-in-TrapToM-clause-put : goal.returns-in-TrapToM-clause-put
 returns-in-TrapToM-clause-put c =
@@ -110,21 +110,21 @@ returns-in-TrapToM-clause-put c =
     let q : Regs = c.args.cpu.now in
     let told = told_of c.args.touched (TrapToM) (regs_at S g) q c.in-TrapToM.is c.requires.touches in
     c.put_trap_to_m.ensures.put
-    ∙ all_said S g q (0 ∷ 32 ∷ 33 ∷ 35 ∷ 36 ∷ 37 ∷ []) (0 ∷ 32 ∷ 33 ∷ 35 ∷ 36 ∷ 37 ∷ []) c.requires.page (machine_rises) (λ k none. none) told
+    ∙ all_said S g q trap_to_m_words trap_to_m_words c.requires.page trap_to_m_rises (λ k none. none) told
 
 pub put_trap_to_s-requires-clause-room : goal.put_trap_to_s-requires-clause-room
 put_trap_to_s-requires-clause-room c =
     let O : List ℕ = undone c.args.store.now c.args.notes.now in
     let g : ℕ = c.args.page in
     let q : Regs = c.args.cpu.now in
-    omega (arith, few_words (regs_at O g) q (0 ∷ 32 ∷ 33 ∷ 44 ∷ 45 ∷ 46 ∷ []) (supervisor_rises))
+    omega (arith, few_words (regs_at O g) q trap_to_s_words trap_to_s_rises)
 
 pub returns-in-TrapToS-clause-count : goal.returns-in-TrapToS-clause-count
 returns-in-TrapToS-clause-count c =
     let O : List ℕ = undone c.args.store.now c.args.notes.now in
     let g : ℕ = c.args.page in
     let q : Regs = c.args.cpu.now in
-    omega (arith, few_words (regs_at O g) q (0 ∷ 32 ∷ 33 ∷ 44 ∷ 45 ∷ 46 ∷ []) (supervisor_rises), c.put_trap_to_s.ensures.count)
+    omega (arith, few_words (regs_at O g) q trap_to_s_words trap_to_s_rises, c.put_trap_to_s.ensures.count)
 
 pub returns-in-TrapToS-clause-put : goal.returns-in-TrapToS-clause-put
 returns-in-TrapToS-clause-put c =
@@ -133,21 +133,21 @@ returns-in-TrapToS-clause-put c =
     let q : Regs = c.args.cpu.now in
     let told = told_of c.args.touched (TrapToS) (regs_at S g) q c.in-TrapToS.is c.requires.touches in
     c.put_trap_to_s.ensures.put
-    ∙ all_said S g q (0 ∷ 32 ∷ 33 ∷ 44 ∷ 45 ∷ 46 ∷ []) (0 ∷ 32 ∷ 33 ∷ 44 ∷ 45 ∷ 46 ∷ []) c.requires.page (supervisor_rises) (λ k none. none) told
+    ∙ all_said S g q trap_to_s_words trap_to_s_words c.requires.page trap_to_s_rises (λ k none. none) told
 
 pub put_return-requires-clause-room : goal.put_return-requires-clause-room
 put_return-requires-clause-room c =
     let O : List ℕ = undone c.args.store.now c.args.notes.now in
     let g : ℕ = c.args.page in
     let q : Regs = c.args.cpu.now in
-    omega (arith, few_words (regs_at O g) q (0 ∷ 32 ∷ 33 ∷ []) (return_rises))
+    omega (arith, few_words (regs_at O g) q return_words return_rises)
 
 pub returns-in-Return-clause-count : goal.returns-in-Return-clause-count
 returns-in-Return-clause-count c =
     let O : List ℕ = undone c.args.store.now c.args.notes.now in
     let g : ℕ = c.args.page in
     let q : Regs = c.args.cpu.now in
-    omega (arith, few_words (regs_at O g) q (0 ∷ 32 ∷ 33 ∷ []) (return_rises), c.put_return.ensures.count)
+    omega (arith, few_words (regs_at O g) q return_words return_rises, c.put_return.ensures.count)
 
 pub returns-in-Return-clause-put : goal.returns-in-Return-clause-put
 returns-in-Return-clause-put c =
@@ -156,4 +156,4 @@ returns-in-Return-clause-put c =
     let q : Regs = c.args.cpu.now in
     let told = told_of c.args.touched (Return) (regs_at S g) q c.in-Return.is c.requires.touches in
     c.put_return.ensures.put
-    ∙ all_said S g q (0 ∷ 32 ∷ 33 ∷ []) (0 ∷ 32 ∷ 33 ∷ []) c.requires.page (return_rises) (λ k none. none) told
+    ∙ all_said S g q return_words return_words c.requires.page return_rises (λ k none. none) told

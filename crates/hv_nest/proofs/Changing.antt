@@ -1,8 +1,8 @@
 -- Putting registers part by part, with notes: what doesn't change is left alone.
-use Rattle.std.proofs.Common.{◌≡◌, ◌≢◌, ℕ, zero, suc, ◌+◌, ◌*◌, ◌<◌, ◌≤◌, Bool, true, false, cond, List, [], ◌∷◌, ◌++◌, length, take, drop, set, get_or, refl, ap, ◌∙◌, sym, arith, length-set}
+use Rattle.std.proofs.Common.{◌≡◌, ◌≢◌, ℕ, zero, suc, ◌+◌, ◌*◌, ◌<◌, ◌≤◌, Bool, true, false, cond, List, [], ◌∷◌, ◌++◌, length, take, drop, set, get_or, refl, ap, ◌∙◌, sym, arith}
 use Rattle.std.specs.Prelude.{◌==◌}
 use Rattle.std.proofs.Math.Seq.{sets, drop-cons}
-use Rattle.std.proofs.lemmas.List.{drop-set-lt, get_or-drop, length-drop, set-get_or}
+use Rattle.std.proofs.lemmas.List.{set-get_or}
 use Rattle.std.proofs.lemmas.Bool.{eq-eqb, eqb-true, ne_eqb}
 use Rattle.hv_cpu.specs.Regs.{Regs, file_of}
 use Rattle.hv_block.specs.Block.{put_regs, regs_at}
@@ -11,13 +11,6 @@ use Rattle.hv_nest.specs.Noted.{control_of}
 use Rattle.hv_nest.specs.Rows.{rows_limit}
 use Rattle.hv_nest.proofs.Puts.{block_changes, count_step, differing_more, differing_nil, differing_part, room_step}
 use Rattle.hv_nest.proofs.Undone.{same_or_other}
-
--- a word that is another is counted
-differing_here : (xs ws : List ℕ) (i : ℕ) → i < length xs → i < length ws → get_or xs i 0 ≢ get_or ws i 0 → 1 ≤ differing xs ws
-differing_here xs ws i h k ne =
-    let one : differing xs (take (i + 1) ws) ≡ differing xs (take i ws) + 1 =
-    differing_more xs ws i h k ∙ ap (λ (t : Bool). differing xs (take i ws) + cond t 0 1) (ne_eqb (get_or xs i 0) (get_or ws i 0) ne) in
-    omega (arith, one, differing_part xs ws (i + 1))
 
 -- so many words are compared as are put
 pub differing_row : (xs ws : List ℕ) (n : ℕ) → n ≡ length ws → differing (take n xs) ws ≡ differing xs ws
@@ -64,44 +57,6 @@ sets_same S (w ∷ ws) at long none =
     same_or_other (get_or S at 0) w (sets S at (w ∷ ws) ≡ S)
     (λ e. first_same S ws at w e ∙ sets_same S ws (suc at) rest (behind_same S ws at w 0 inside none e))
     (λ ne. absurd (omega (arith, behind_other S ws at w 0 inside none ne)))
-
--- where one word alone is another, that one is put
-pub sets_one : (S ws : List ℕ) (at k : ℕ) → at + length ws ≤ length S → differing (drop at S) ws ≡ 1 → k < length ws → get_or S (at + k) 0 ≢ get_or ws k 0 → sets S at ws ≡ set S (at + k) (get_or ws k 0)
-sets_one S [] at k long one lt ne = absurd (omega (arith, lt))
-sets_one S (w ∷ ws) at zero long one lt ne =
-    let inside : at < length S = omega (arith, long) in
-    let here : at + 0 ≡ at = omega arith in
-    let other : get_or S at 0 ≢ w = λ q. ne (ap (λ (j : ℕ). get_or S j 0) here ∙ q) in
-    let next : at < suc at = omega arith in
-    let none : differing (drop (suc at) S) ws ≡ 0 = omega (arith, behind_other S ws at w 1 inside one other) in
-    let still : differing (drop (suc at) (set S at w)) ws ≡ 0 = ap (λ (xs : List ℕ). differing xs ws) (drop-set-lt (suc at) S at w next) ∙ none in
-    let rest : suc at + length ws ≤ length (set S at w) = omega (arith, long, length-set S at w) in
-    sets_same (set S at w) ws (suc at) rest still ∙ ap (λ (j : ℕ). set S j w) (sym here)
-sets_one S (w ∷ ws) at (suc k) long one lt ne =
-    let inside : at < length S = omega (arith, long) in
-    let next : suc at + k ≡ at + suc k = omega arith in
-    let rest : suc at + length ws ≤ length S = omega (arith, long) in
-    let shorter : k < length ws = omega (arith, lt) in
-    let far : get_or S (suc at + k) 0 ≢ get_or ws k 0 = λ q. ne (ap (λ (j : ℕ). get_or S j 0) (sym next) ∙ q) in
-    let in_range : k < length (drop (suc at) S) = omega (arith, rest, shorter, length-drop (suc at) S) in
-    same_or_other (get_or S at 0) w (sets S at (w ∷ ws) ≡ set S (at + suc k) (get_or ws k 0))
-    (λ e.
-    first_same S ws at w e
-    ∙ sets_one S ws (suc at) k rest (behind_same S ws at w 1 inside one e) shorter far
-    ∙ ap (λ (j : ℕ). set S j (get_or ws k 0)) next)
-    (λ other. absurd (omega (arith, behind_other S ws at w 1 inside one other, differing_here (drop (suc at) S) ws k in_range shorter (λ q. far (sym (get_or-drop (suc at) S k 0) ∙ q)))))
-
--- one word of a row: there is room where it changes
-pub likely_room : (O ws : List ℕ) (at k place n : ℕ) → place ≡ at + k → k < length ws → at + length ws ≤ length O → n + differing (drop at O) ws ≤ rows_limit → get_or O place 0 ≢ get_or ws k 0 → n < rows_limit
-likely_room O ws at k place n p lt long room ne =
-    let few : n ≤ n + differing (drop at O) (take k ws) = omega arith in
-    room_step O ws at k place n n p lt long few room ne
-
--- and then few are noted
-pub likely_count : (O ws : List ℕ) (at k place n m : ℕ) → place ≡ at + k → k < length ws → at + length ws ≤ length O → m ≤ n + 1 → (get_or O place 0 ≡ get_or ws k 0 → m ≡ n) → m ≤ n + differing (drop at O) ws
-likely_count O ws at k place n m p lt long more same =
-    let few : n ≤ n + differing (drop at O) (take k ws) = omega arith in
-    omega (arith, count_step O ws at k place n m n p lt long few more same, differing_part (drop at O) ws (k + 1))
 
 -- two rows, one behind the other
 pub sets_append : (us vs S : List ℕ) (i : ℕ) → sets S i (us ++ vs) ≡ sets (sets S i us) (i + length us) vs
@@ -226,4 +181,4 @@ count_more xs ws i c h k e = ap (λ (n : ℕ). n + cond (get_or xs i 0 == get_or
 
 pub ruleset counting = (differing_nil, count_more)
 
-pub ruleset rows_put = (sets_same, sets_one, differing_row, likely_room, likely_count)
+pub ruleset rows_put = (sets_same, differing_row)

@@ -19,4 +19,5 @@ pub mod SimulatedSteps
 pub mod SimulatedWalks
 pub mod SimulationLaws
 pub mod Told
+pub mod TouchedWords
 pub mod Undone

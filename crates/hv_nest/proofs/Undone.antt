@@ -1,10 +1,8 @@
 -- What follows from putting noted words back.
-use Rattle.std.proofs.Common.{◌≡◌, ◌≢◌, ℕ, suc, ◌+◌, ◌<◌, ◌≤◌, true, false, Bool, not, cond, ◌&&◌, List, [], ◌∷◌, ◌++◌, length, drop, get_or, set, refl, ap, ◌∙◌, sym, arith, length-set, get_or-set_other, get_or-set_same, eqb-true, subst}
+use Rattle.std.proofs.Common.{◌≡◌, ◌≢◌, ℕ, suc, ◌<◌, ◌≤◌, true, false, Bool, not, cond, ◌&&◌, List, [], ◌∷◌, ◌++◌, length, get_or, set, refl, ap, ◌∙◌, sym, arith, length-set, get_or-set_other, get_or-set_same, eqb-true, subst}
 use Rattle.std.specs.List.{AllByRecursion}
 use Rattle.std.specs.Prelude.{◌==◌, ◌||◌, nat_lt}
-use Rattle.std.proofs.Math.Seq.{drop-cons}
-use Rattle.std.proofs.Math.Numerals.{add-one}
-use Rattle.std.proofs.lemmas.List.{set-set, set_comm, set-get_or, drop_all}
+use Rattle.std.proofs.lemmas.List.{set-set, set_comm, set-get_or}
 use Rattle.std.proofs.lemmas.Bool.{and_parts, ne_eqb, eqb-false, not-true, lt-ltb, ltb-true}
 use Rattle.std.proofs.lemmas.List.Folds.{list_any-append}
 use Rattle.hv_nest.specs.declared.notes.Note.{Note}
@@ -184,26 +182,6 @@ pub noted_apart : (notes : List Note) (a b v : ℕ) → b ≢ a → is_noted b (
 noted_apart [] a b v ne = ap (λ t. t || false) (ne_eqb a b (λ q. ne (sym q)))
 noted_apart (n ∷ notes) a b v ne = ap (λ t. (n.at == b) || t) (noted_apart notes a b v ne)
 
--- what the notes say of a place, from note i on
-pub undone_here : (T : List ℕ) (notes : List Note) (a i : ℕ) (d : Note) → a < length T → i < length notes → (get_or notes i d).at ≡ a → get_or (undone T (drop i notes)) a 0 ≡ (get_or notes i d).before
-unfolding undone
-undone_here T notes a i d lt h e =
-    ap (λ (xs : List Note). get_or (undone T xs) a 0) (drop-cons notes i d h)
-    ∙ ap (λ (k : ℕ). get_or (set (undone T (drop (suc i) notes)) k (get_or notes i d).before) a 0) e
-    ∙ (let in_range : a < length (undone T (drop (suc i) notes)) = omega (arith, length-undone T (drop (suc i) notes)) in
-    get_or-set_same (undone T (drop (suc i) notes)) a (get_or notes i d).before 0 in_range)
-
-pub undone_later : (T : List ℕ) (notes : List Note) (a i : ℕ) (d : Note) → i < length notes → (get_or notes i d).at ≢ a → get_or (undone T (drop i notes)) a 0 ≡ get_or (undone T (drop (i + 1) notes)) a 0
-unfolding undone
-undone_later T notes a i d h ne =
-    ap (λ (xs : List Note). get_or (undone T xs) a 0) (drop-cons notes i d h)
-    ∙ get_or-set_other (undone T (drop (suc i) notes)) (get_or notes i d).at a (get_or notes i d).before 0 (λ q. ne (sym q))
-    ∙ ap (λ (j : ℕ). get_or (undone T (drop j notes)) a 0) (sym (add-one i))
-
-pub undone_end : (T : List ℕ) (notes : List Note) (a i : ℕ) → length notes ≤ i → get_or (undone T (drop i notes)) a 0 ≡ get_or T a 0
-unfolding undone
-undone_end T notes a i h = ap (λ (xs : List Note). get_or (undone T xs) a 0) (drop_all i notes h)
-
 -- the places without one of them
 without : ℕ → List ℕ → List ℕ
 without a [] = []
@@ -260,6 +238,6 @@ few_notes T (n ∷ notes) ps e f =
             let ne : n.at ≢ a = eqb-false n.at a q in
             f a (has-without n.at a ps ne z) ∙ get_or-set_other (undone T notes) n.at a n.before 0 (λ w. ne (sym w))
 
-pub ruleset undoing = (put_new, put_noted, put_same, undone_at, exact_more, noted_apart, undone_here, undone_later, undone_end)
+pub ruleset undoing = (put_new, put_noted, put_same, undone_at, exact_more, noted_apart)
 
 pub ruleset taking_back = (exact_below, last_below)

@@ -13,4 +13,5 @@ pub mod Rows
 pub mod Simulation
 pub mod State
 pub mod Step
+pub mod Touching
 pub mod Watched

@@ -12,6 +12,7 @@ mod outcome;
 mod plain;
 mod running;
 mod step;
+mod touching;
 
 pub use changed::{Changed, ChangedRow, ROWS, rows_are_the_limit};
 pub use harts::Harts;
@@ -23,3 +24,4 @@ pub use outcome::{Outcome, StepKind};
 pub use plain::Plain;
 pub use running::path_of;
 pub use step::{host_step, host_step_into};
+pub use touching::put_touched;

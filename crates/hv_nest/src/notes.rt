@@ -88,20 +88,6 @@ impl Notes {
         self.len += 1;
     }
 
-    /// What the word at a place was before the noted changes.
-    #[tactic(auto, using(crate::proofs::Undone::undoing))]
-    pub fn before(&self, store: &Store, at: u32) -> u32
-        requires { at < length store.now }
-        ensures { result ≡ slice_index (undone store.now self.now) at }
-    {
-        for note in self.as_slice() {
-            if note.at == at {
-                return note.before;
-            }
-        }
-        store.get(at)
-    }
-
     /// Changes the word at a place, and notes what it was where it changes for the first time.
     #[inline(always)]
     #[tactic(auto, using(crate::proofs::Undone::undoing))]

@@ -139,10 +139,9 @@ impl Space for NotingBare<'_> {
     }
 }
 
-/// Puts the registers into the control block in bare page `page`, and notes what changes. Where `register` (1 to 31) is
-/// the one of x1 to x31 that changed, if any did, this is quicker than where it isn't.
+/// Puts the registers into the control block in bare page `page`, and notes what changes.
 #[inline(always)]
-pub fn put_cpu(store: &mut Store, notes: &mut Notes, page: u32, cpu: &Cpu, register: u32)
+pub fn put_cpu(store: &mut Store, notes: &mut Notes, page: u32, cpu: &Cpu)
     requires page { page < page_count store.old }
     requires room { length notes.old + changed_regs (regs_at (undone store.old notes.old) page) cpu.now ≤ rows_limit }
     ensures put { store.new ≡ put_regs store.old page cpu.now }
@@ -152,8 +151,8 @@ pub fn put_cpu(store: &mut Store, notes: &mut Notes, page: u32, cpu: &Cpu, regis
     let _pages = store.pages();
     let at = 1024 * page;
     notes.put(store, at, cpu.pc);
-    put_row(store, notes, at + 1, file(cpu), register);
-    put_row(store, notes, at + 32, &control_words(cpu), 0);
+    put_row(store, notes, at + 1, file(cpu));
+    put_row(store, notes, at + 32, &control_words(cpu));
     notes.put(store, at + 64, next_word(cpu));
 }
 
@@ -199,11 +198,10 @@ fn next_word(cpu: &Cpu) -> u32
     cpu.next.unwrap_or(0)
 }
 
-// Puts words from a place of the storage on, and notes what changes. Where the word of number `likely`, counted from 1,
-// is the one that changes, if any does, this is quicker than where it isn't.
+// Puts words from a place of the storage on, and notes what changes. This is quickest where nothing does.
 #[inline(always)]
 #[tactic(auto, using(crate::proofs::Changing::rows_put))]
-fn put_row(store: &mut Store, notes: &mut Notes, at: u32, words: &[u32], likely: u32)
+fn put_row(store: &mut Store, notes: &mut Notes, at: u32, words: &[u32])
     requires short { length words.now ≤ 31 }
     requires inside { at + length words.now ≤ length store.old }
     requires room { length notes.old + differing (drop at (undone store.old notes.old)) words.now ≤ rows_limit }
@@ -213,19 +211,9 @@ fn put_row(store: &mut Store, notes: &mut Notes, at: u32, words: &[u32], likely:
 {
     let _pages = store.pages();
     let length = words.len() as u32;
-    let count = count_differing(store.row(at, length), words);
-    if count == 0 {
-        return;
+    if count_differing(store.row(at, length), words) > 0 {
+        put_words(store, notes, at, words);
     }
-    if count == 1 && 0 < likely && likely <= length {
-        let place = likely - 1;
-        let word = words[place as usize];
-        if store.get(at + place) != word {
-            notes.put(store, at + place, word);
-            return;
-        }
-    }
-    put_words(store, notes, at, words);
 }
 
 // The same one by one.

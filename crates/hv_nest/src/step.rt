@@ -161,7 +161,7 @@ pub(crate) fn step_at(
             let mut inner = block.cpu;
             match step_at(store, notes, &deeper, 0, &mut inner) {
                 Ok(kind) => {
-                    put_cpu(store, notes, host, &inner, 0);
+                    put_cpu(store, notes, host, &inner);
                     Ok(kind)
                 }
                 Err(refusal) => tell(store, notes, level, cpu, host, refusal),

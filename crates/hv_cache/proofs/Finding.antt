@@ -1,13 +1,13 @@
 -- What a look-up finds after each change of a cache.
-use Rattle.std.proofs.Common.{◌≡◌, ℕ, ◌-◌, ◌≤◌, Bool, true, false, not, cond, List, [], ◌∷◌, length, take, Option, Some, None, inl, inr, refl, sym, ap, ◌∙◌, arith}
+use Rattle.std.proofs.Common.{◌≡◌, ℕ, zero, suc, ◌-◌, ◌≤◌, Bool, true, false, not, cond, List, [], ◌∷◌, length, take, Option, Some, None, IfSome, inl, inr, refl, sym, subst, ap, ◌∙◌, arith}
 use Rattle.std.proofs.lemmas.Bool.{cases_Bool}
 use Rattle.std.proofs.lemmas.List.{take_all}
 use Rattle.std.proofs.lemmas.Map.Entries.{lookup-filter-values, option_filter}
 use Rattle.std.specs.Map.{lookup, lookup_entry, remove_entry}
 use Rattle.std.specs.Option.{option_map_or}
 use Rattle.hv_cache.specs.Kept.{Kept, rests_on}
-use Rattle.hv_cache.specs.Holding.{Entry, Key, same}
-use Rattle.hv_cache.specs.Laws.{ForgottenLaw, KeptIsFoundLaw, LookKeepsLaw, OthersStayLaw, unless_on}
+use Rattle.hv_cache.specs.Holding.{Entry, Key, same, with_entry}
+use Rattle.hv_cache.specs.Laws.{ForgottenLaw, KeptIsFoundLaw, LookKeepsLaw, OnlyKeptIsNewLaw, OthersStayLaw, unless_on}
 use Rattle.hv_cache.proofs.Forgotten.{same_equiv}
 use Rattle.hv_cache.proofs.Staying.{same_is}
 
@@ -28,6 +28,30 @@ other_removed key q (e ∷ es) apart = elim (cases_Bool (same key e.0)) [
   | inl t ↦ let other : same q e.0 ≡ false = rw (same_is key e.0 t) at (sym (same_equiv.symm key q) ∙ apart) in rw (t, other) refl
   | inr t ↦ rw t (ap (λ (o : Option Kept). cond (same q e.0) (Some e.1) o) (other_removed key q es apart))
 ]
+
+-- what is found among the first entries is found among all
+found_taken : (test : Key → Bool) (n : ℕ) (es : List Entry) → IfSome (lookup test (take n es)) (λ found. lookup test es ≡ Some found)
+found_taken test zero es = tt
+found_taken test (suc n) [] = tt
+found_taken test (suc n) (e ∷ es) = elim (cases_Bool (test e.0)) [
+  | inl t ↦ rw t refl
+  | inr t ↦ rw t (found_taken test n es)
+]
+
+pub only_kept_is_new : OnlyKeptIsNewLaw
+only_kept_is_new c key k = (kept_is_found c key k, others)
+  where
+    others :
+        (q : Key)
+        → same key q ≡ false
+        → IfSome (lookup (same q) (with_entry c key k)) (λ found. lookup (same q) c.entries ≡ Some found)
+    others q apart =
+        let left = remove_entry (same key) c.entries in
+        let other : same q key ≡ false = sym (same_equiv.symm key q) ∙ apart in
+        rw other
+        (subst (λ (o : Option Kept). IfSome (lookup (same q) (take (c.cap - 1) left)) (λ found. o ≡ Some found))
+        (other_removed key q c.entries apart)
+        (found_taken (same q) (c.cap - 1) left))
 
 pub others_stay : OthersStayLaw
 others_stay c key q k room apart =

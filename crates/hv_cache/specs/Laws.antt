@@ -1,5 +1,5 @@
 -- What a look-up finds after each change of a cache.
-use Rattle.std.specs.Prelude.{◌≡◌, ℕ, ◌<◌, false, if◌then◌else◌, List, ◌∷◌, length, Option, Some, None}
+use Rattle.std.specs.Prelude.{◌≡◌, ℕ, ◌<◌, false, if◌then◌else◌, List, ◌∷◌, length, Option, Some, None, IfSome}
 use Rattle.std.specs.List.{IsDistinct}
 use Rattle.std.specs.Map.{keys_of, lookup, remove_entry}
 use Rattle.lru.specs.LruCache.{promoted}
@@ -9,6 +9,15 @@ use Rattle.hv_cache.specs.Holding.{Entry, Holding, Key, same, with_entry, withou
 -- what was kept last for a key is found
 abbrev pub KeptIsFoundLaw : Type 0
 KeptIsFoundLaw = (c : Holding) (key : Key) (k : Kept) → lookup (same key) (with_entry c key k) ≡ Some k
+
+-- after k is kept for a key, a look-up of the key finds k; one of another key finds what it found before, or nothing
+abbrev pub OnlyKeptIsNewLaw : Type 0
+OnlyKeptIsNewLaw =
+    (c : Holding) (key : Key) (k : Kept)
+    → (lookup (same key) (with_entry c key k) ≡ Some k)
+    × ((q : Key)
+    → same key q ≡ false
+    → IfSome (lookup (same q) (with_entry c key k)) (λ found. lookup (same q) c.entries ≡ Some found))
 
 -- where fewer are held than the capacity, all others stay; and what is found for them is the same
 abbrev pub OthersStayLaw : Type 0

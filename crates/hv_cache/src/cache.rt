@@ -1,9 +1,9 @@
 //! The cache of translations.
 
-ghost use Rattle.std.specs.Prelude.{◌≡◌, ◌<◌, ◌≤◌, [], IfOk, OnErr, OnOk, false, is_some, option_copied};
+ghost use Rattle.std.specs.Prelude.{◌≡◌, ◌<◌, ◌≤◌, [], IfOk, OnErr, OnOk, false, is_some, length, option_copied};
 ghost use Rattle.std.specs.Borrow.{sem};
-ghost use Rattle.std.specs.List.{AllByRecursion};
-ghost use Rattle.std.specs.Map.{lookup};
+ghost use Rattle.std.specs.List.{AllByRecursion, IsDistinct};
+ghost use Rattle.std.specs.Map.{keys_of, lookup};
 ghost use Rattle.std.specs.Option.{option_map};
 ghost use Rattle.hv_limits.specs.Limits.{pages_limit};
 ghost use Rattle.hv_map.specs.Apart.{blocks_of};
@@ -72,9 +72,11 @@ impl MapCache {
         self.entries.entry((id, page))
     }
 
-    /// Whether there is an entry for a page.
+    /// Whether there is an entry for a page. No more are held than the capacity, each under a key of its own.
     pub fn holds(&self, id: u32, page: u32) -> bool
-        ensures { result ≡ is_some (lookup (same (id, page)) self.now.entries) }
+        ensures holds { result ≡ is_some (lookup (same (id, page)) self.now.entries) }
+        ensures few { length self.now.entries ≤ self.now.cap }
+        ensures distinct { IsDistinct same (keys_of self.now.entries) }
     {
         self.entries.contains((id, page))
     }

@@ -58,8 +58,12 @@ impl Entries {
 
     /// Whether there is an entry under a key.
     pub(crate) fn contains(&self, key: (u32, u32)) -> bool
-        ensures { result ≡ is_some (lookup (same key) self.now.entries) }
+        ensures holds { result ≡ is_some (lookup (same key) self.now.entries) }
+        ensures few { length self.now.entries ≤ self.now.cap }
+        ensures distinct { IsDistinct same (keys_of self.now.entries) }
     {
+        // No more are held than there is room for, and no key is there twice.
+        let _held = self.kept.len();
         self.kept.contains(&key)
     }
 

@@ -8,6 +8,9 @@ mod entries;
 mod kept;
 pub mod laws;
 mod tally;
+#[cfg(test)]
+mod tests;
 
 pub use cache::MapCache;
+pub use hv_map::{Chain, Pages, Slot};
 pub use kept::Kept;

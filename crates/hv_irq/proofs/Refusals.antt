@@ -1,5 +1,5 @@
 -- Why events can't follow one another, a part of them at a time.
-use Rattle.std.proofs.Common.{◌≡◌, ◌≢◌, ℕ, zero, suc, ◌-◌, List, [], ◌∷◌, ◌++◌, Option, None, Some, MatchOption, Result, Ok, Err, refl, sym, subst, ap, ◌∙◌, append_assoc}
+use Rattle.std.proofs.Common.{◌≡◌, ◌≢◌, ℕ, zero, suc, ◌+◌, ◌-◌, ◌≤◌, List, [], ◌∷◌, ◌++◌, length, Option, None, Some, MatchOption, Result, Ok, Err, refl, sym, subst, ap, ◌∙◌, append_assoc, length-append, arith}
 use Rattle.std.specs.Option.{option_or}
 use Rattle.std.proofs.Math.Dec.{eqb-suc-zero}
 use Rattle.std.proofs.lemmas.List.{append-nil}
@@ -7,7 +7,8 @@ use Rattle.std.specs.Prelude.{IfErr, IsErrAnd}
 use Rattle.hv_irq.specs.declared.Event.{Event}
 use Rattle.hv_irq.specs.declared.Event.TheVariants.{Turn, Lines}
 use Rattle.hv_irq.specs.declared.PushEnd.{PushEnd}
-use Rattle.hv_irq.specs.declared.PushEnd.TheVariants.{Memory}
+use Rattle.hv_irq.specs.declared.PushEnd.TheVariants.{Many, Memory}
+use Rattle.hv_limits.specs.Limits.{events_limit}
 use Rattle.hv_irq.specs.Events.{refusal_of, first_refusal_of, turn_of, raised_at}
 
 or_none : (o : Option PushEnd) → option_or o None ≡ o
@@ -137,3 +138,38 @@ none_told total at hart mask r s t nil none first neither second none_again =
 pub passes_on : (r : Result (List Event) PushEnd) (end : PushEnd) (P : PushEnd → Type 0) → IsErrAnd r (λ given. given ≡ end) → P end → IfErr r P
 passes_on (Ok events) end P is holds = tt
 passes_on (Err given) end P is holds = subst P (sym is) holds
+
+-- an event isn't refused for the number of those before it where there is room for one more
+room_for_one : (before : List Event) (event : Event) → length before + 1 ≤ events_limit → refusal_of before event ≢ Some Many
+room_for_one before event room is = grind arith
+
+or_other : (o p : Option PushEnd) → o ≢ Some Many → p ≢ Some Many → option_or o p ≢ Some Many
+or_other None p one other is = other is
+or_other (Some end) p one other is = one is
+
+-- nor is one of several where there is room for all
+room_for_all : (before events : List Event) → length before + length events ≤ events_limit → first_refusal_of before events ≢ Some Many
+unfolding first_refusal_of
+room_for_all before [] room = λ (is : None ≡ Some Many). cc
+room_for_all before (event ∷ events) room =
+    or_other (refusal_of before event) (first_refusal_of (before ++ event ∷ []) events)
+    (room_for_one before event (omega (arith, room)))
+    (room_for_all (before ++ event ∷ []) events (simp length-append (omega (arith, room))))
+
+short_turn : (hart count : ℕ) → length (turn_of hart count) ≤ 1
+short_turn hart zero = omega arith
+short_turn hart (suc count) = rw (eqb-suc-zero count) (omega arith)
+
+-- lines that are raised between two turns are three events at most
+raised_not_many : (total at hart mask : ℕ) → first_refusal_of [] (raised_at total at hart mask) ≢ Some Many
+raised_not_many total at hart mask =
+    room_for_all [] (raised_at total at hart mask)
+    (simp length-append (omega (arith, short_turn hart at, short_turn hart (total - at))))
+
+-- so no end says that there are too many
+pub never_many : (total at hart mask : ℕ) (r : Result (List Event) PushEnd)
+    → IfErr r (λ end. end ≢ Memory → first_refusal_of [] (raised_at total at hart mask) ≡ Some end)
+    → IfErr r (λ end. end ≢ Many)
+never_many total at hart mask (Ok events) says = tt
+never_many total at hart mask (Err end) says =
+    λ is. raised_not_many total at hart mask (says (λ (memory : end ≡ Memory). cc) ∙ ap Some is)

@@ -162,8 +162,8 @@ impl Recording {
     }
 }
 
-/// A schedule of one hart: `total` steps, with its lines set to `mask` after `at` of them. A turn of no
-/// steps is left out. It is refused as `push` refuses the first of the events that breaks a rule.
+/// A schedule of one hart: `total` steps, with its lines set to `mask` after `at` of them. A turn of no steps is left
+/// out. It is refused as `push` refuses the first of the events that breaks a rule, and never for their number.
 pub fn raise_at(
     alloc: Global,
     total: u32,
@@ -176,6 +176,7 @@ pub fn raise_at(
     ensures ok { OnOk result (first_refusal_of [] (raised_at total at hart mask) ≡ None) }
     ensures refused { IfErr result (λ end. end ≢ PushEnd.Memory →
         first_refusal_of [] (raised_at total at hart mask) ≡ Some end) }
+    ensures few { IfErr result (λ end. end ≢ PushEnd.Many) }
 {
     let mut recording = Recording::new(alloc);
     recording.push_turn(hart, at)?;
@@ -183,3 +184,6 @@ pub fn raise_at(
     recording.push_turn(hart, total - at)?;
     Ok(recording)
 }
+
+#[cfg(test)]
+mod tests;

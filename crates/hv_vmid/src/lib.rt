@@ -4,3 +4,6 @@
 mod ids;
 
 pub use ids::{IDS, IdEnd, Ids};
+
+#[cfg(test)]
+mod tests;

@@ -5,7 +5,7 @@ use Rattle.hv_fast.proofs.translations.holds.Goals as goal
 
 pub returns-in-Some : goal.returns-in-Some
 returns-in-Some c =
-    c.holds.ensures
+    c.holds.ensures.holds
     ∙ found_held c.args.ids.now c.args.cache.now.entries c.in-Some.number c.args.path.now c.args.page c.in-Some.ensures.numbered c.in-Some.ensures.found
 
 pub returns-in-None : goal.returns-in-None

@@ -13,7 +13,8 @@ use Rattle.hv_block.proofs.Words.{sets_at, sets_outside, length-put_regs}
 use Rattle.hv_exec.specs.Changes.{changed_regs, differing}
 use Rattle.hv_exec.specs.Touched.{AreAsBut, Touches}
 use Rattle.hv_exec.specs.declared.touched.Touched.{Touched}
-use Rattle.hv_nest.specs.Touching.{changed_word, changed_words, csr_words, file_words, return_words, trap_to_m_words, trap_to_s_words, with_words}
+use Rattle.hv_nest.specs.Touching.{changed_word, changed_words, csr_words, file_words, with_words}
+use Rattle.hv_exec.specs.Touched.{return_words, trap_to_m_words, trap_to_s_words}
 
 -- places of registers, of which each is above those before it, from j on
 abbrev pub Rising : ℕ → List ℕ → Type 0

@@ -24,15 +24,3 @@ file_words i = if i == 0 then 0 ∷ [] else 0 ∷ i ∷ []
 -- the same with the control register in word w too
 abbrev pub csr_words : ℕ → ℕ → List ℕ
 csr_words i w = if i == 0 then 0 ∷ w ∷ [] else 0 ∷ i ∷ w ∷ []
-
--- what a trap to M changes: pc, mode, mstatus, mepc, mcause and mtval
-abbrev pub trap_to_m_words : List ℕ
-trap_to_m_words = 0 ∷ 32 ∷ 33 ∷ 35 ∷ 36 ∷ 37 ∷ []
-
--- what a trap to S changes: pc, mode, mstatus, sepc, scause and stval
-abbrev pub trap_to_s_words : List ℕ
-trap_to_s_words = 0 ∷ 32 ∷ 33 ∷ 44 ∷ 45 ∷ 46 ∷ []
-
--- what MRET and SRET change: pc, mode and mstatus
-abbrev pub return_words : List ℕ
-return_words = 0 ∷ 32 ∷ 33 ∷ []

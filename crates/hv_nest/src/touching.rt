@@ -5,11 +5,11 @@ ghost use Rattle.hv_word.specs.Storage.{page_count, word_at, with_word};
 ghost use Rattle.hv_cpu.specs.Regs.{spelled};
 ghost use Rattle.hv_block.specs.Block.{regs_at, put_regs};
 ghost use Rattle.hv_exec.specs.Changes.{changed_regs};
-ghost use Rattle.hv_exec.specs.Touched.{Touches};
+ghost use Rattle.hv_exec.specs.Touched.{Touches, trap_to_m_words, trap_to_s_words, return_words};
 ghost use Rattle.hv_nest.specs.Notes.{undone};
 ghost use Rattle.hv_nest.specs.Rows.{rows_limit};
 ghost use Rattle.hv_nest.specs.Touching.{with_words, changed_word, changed_words};
-ghost use Rattle.hv_nest.specs.Touching.{file_words, csr_words, trap_to_m_words, trap_to_s_words, return_words};
+ghost use Rattle.hv_nest.specs.Touching.{file_words, csr_words};
 
 use crate::notes::Notes;
 use crate::noting::put_cpu;

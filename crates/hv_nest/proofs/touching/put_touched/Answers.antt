@@ -4,7 +4,8 @@ use Rattle.hv_cpu.specs.Regs.{Regs}
 use Rattle.hv_block.specs.Block.{regs_at}
 use Rattle.hv_exec.specs.declared.touched.Touched.TheVariants.{File, Csr, TrapToM, TrapToS, Return}
 use Rattle.hv_nest.specs.Notes.{undone}
-use Rattle.hv_nest.specs.Touching.{csr_words, file_words, return_words, trap_to_m_words, trap_to_s_words}
+use Rattle.hv_nest.specs.Touching.{csr_words, file_words}
+use Rattle.hv_exec.specs.Touched.{return_words, trap_to_m_words, trap_to_s_words}
 use Rattle.hv_nest.proofs.TouchedWords.{all_said, bare_named, csr_named, csr_rises, few_words, file_named, file_rises, return_rises, trap_to_m_rises, trap_to_s_rises, told_of}
 use Rattle.hv_nest.proofs.touching.put_touched.Goals as goal
 

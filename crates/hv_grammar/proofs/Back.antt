@@ -373,10 +373,7 @@ told_holds says assembled within =
       assembled = assembled;
       room = record {
         harts = omega (arith, one);
-        machines = within.machines;
-        watches = within.watches;
-        dumps = within.dumps;
-        images = within.images;
+        limits = within.limits;
         steps = within.steps;
         events = within.events;
       };

@@ -7,16 +7,18 @@ use Rattle.hv_irq.specs.declared.Event.{Event}
 use Rattle.hv_irq.specs.declared.PushEnd.{PushEnd}
 use Rattle.hv_irq.specs.declared.PushEnd.TheVariants as pushed
 use Rattle.hv_limits.specs.Limits.{events_limit, harts_limit, steps_limit}
-use Rattle.hv_line.specs.JobLimits.{job_breaks, job_commands, job_dumps, job_harts, job_image_bytes, job_machines, job_watches}
+use Rattle.hv_line.specs.JobLimits.{job_breaks, job_commands, job_harts}
 use Rattle.hv_line.specs.declared.types.DebugCommand.{DebugCommand}
 use Rattle.hv_line.specs.declared.types.DebugCommand.TheVariants as command
 use Rattle.hv_line.specs.declared.types.Directive.{Directive}
-use Rattle.hv_line.specs.declared.types.Directive.TheVariants as directive
 use Rattle.hv_job.specs.Commands.{is_over}
-use Rattle.hv_job.specs.IsJob.{breaks_in, bytes_of, count_of, image_bytes, is_break, is_dump, is_machine, is_watch}
+use Rattle.hv_job.specs.IsJob.{breaks_in, is_break}
 use Rattle.hv_job.specs.JobOf.{is_many}
+use Rattle.hv_job.specs.Limited.{amount_of, limit_of, share_of}
 use Rattle.hv_job.specs.declared.job.DebugLine.{DebugLine as Command}
 use Rattle.hv_job.specs.declared.job.Placed.{Placed}
+use Rattle.hv_job.specs.declared.limited.Limited.{Limited}
+use Rattle.hv_job.proofs.Counting.{kept_few}
 use Rattle.hv_grammar.specs.Said.{Said, events_by, events_said, placed_by, placed_said}
 use Rattle.hv_grammar.specs.Within.{harts_by_line, harts_lines}
 use Rattle.hv_grammar.proofs.Deeds.{Draft}
@@ -24,10 +26,7 @@ use Rattle.hv_grammar.proofs.Telling.{harts_count}
 
 pub record Room (draft : Draft) (n : ℕ) (says : List Said) : Type 0 where
   pub harts : harts_count draft.harts + harts_lines says ≤ 1
-  pub machines : count_of is_machine (draft.lines ++ placed_said n says) ≤ job_machines
-  pub watches : count_of is_watch (draft.lines ++ placed_said n says) ≤ job_watches
-  pub dumps : count_of is_dump (draft.lines ++ placed_said n says) ≤ job_dumps
-  pub images : image_bytes (draft.lines ++ placed_said n says) ≤ job_image_bytes
+  pub limits : (of : Limited) → amount_of of (draft.lines ++ placed_said n says) ≤ limit_of of
   pub steps : total_of (draft.recording ++ events_said says) ≤ steps_limit
   pub events : length (draft.recording ++ events_said says) ≤ events_limit
 
@@ -43,10 +42,7 @@ room_next draft next n said says harts lines events room =
     let h : harts_count draft.harts + harts_lines (said ∷ says) ≤ 1 = room.harts in
     record {
       harts = omega (arith, h, harts);
-      machines = subst (λ ps. count_of is_machine ps ≤ job_machines) (sym e) room.machines;
-      watches = subst (λ ps. count_of is_watch ps ≤ job_watches) (sym e) room.watches;
-      dumps = subst (λ ps. count_of is_dump ps ≤ job_dumps) (sym e) room.dumps;
-      images = subst (λ ps. image_bytes ps ≤ job_image_bytes) (sym e) room.images;
+      limits = λ of. subst (λ ps. amount_of of ps ≤ limit_of of) (sym e) (room.limits of);
       steps = subst (λ es. total_of es ≤ steps_limit) (sym f) room.steps;
       events = subst (λ es. length es ≤ events_limit) (sym f) room.events;
     }
@@ -59,26 +55,13 @@ above f xs rest x limit le =
     let u : sum_by f (x ∷ []) ≡ f x = zero-add (f x) in
     omega (arith, le, s, t, u)
 
-few_of : (lines : List Placed) (what : Directive) → count_of is_machine lines + cond (is_machine what) 1 0 ≤ job_machines → count_of is_watch lines + cond (is_watch what) 1 0 ≤ job_watches → count_of is_dump lines + cond (is_dump what) 1 0 ≤ job_dumps → image_bytes lines + bytes_of what ≤ job_image_bytes → is_many lines what ≡ false
-unfolding is_many
-few_of lines (directive.Machine name parent block pages table at) machines watches dumps bytes = grind (arith, nat_tests)
-few_of lines (directive.Watch hart name) machines watches dumps bytes = grind (arith, nat_tests)
-few_of lines (directive.Dump name page) machines watches dumps bytes = grind (arith, nat_tests)
-few_of lines (directive.Image name image) machines watches dumps bytes = grind (arith, nat_tests)
-few_of lines (directive.Sample name image) machines watches dumps bytes = grind (arith, nat_tests)
-few_of lines _ machines watches dumps bytes = refl
-
 pub few : (draft : Draft) (n : ℕ) (said : Said) (says : List Said) (what : Directive) → placed_by n said says ≡ record { line = n; what = what } ∷ [] → Room draft n (said ∷ says) → is_many draft.lines what ≡ false
 few draft n said says what one room =
     let p : Placed = record { line = n; what = what } in
     let e : draft.lines ++ placed_said n (said ∷ says) ≡ draft.lines ++ p ∷ placed_said (n + 1) says =
     ap (λ ps. draft.lines ++ (ps ++ placed_said (n + 1) says)) one
     in
-    few_of draft.lines what
-    (above (λ (q : Placed). cond (is_machine q.what) 1 0) draft.lines (placed_said (n + 1) says) p job_machines (subst (λ ps. count_of is_machine ps ≤ job_machines) e room.machines))
-    (above (λ (q : Placed). cond (is_watch q.what) 1 0) draft.lines (placed_said (n + 1) says) p job_watches (subst (λ ps. count_of is_watch ps ≤ job_watches) e room.watches))
-    (above (λ (q : Placed). cond (is_dump q.what) 1 0) draft.lines (placed_said (n + 1) says) p job_dumps (subst (λ ps. count_of is_dump ps ≤ job_dumps) e room.dumps))
-    (above (λ (q : Placed). bytes_of q.what) draft.lines (placed_said (n + 1) says) p job_image_bytes (subst (λ ps. image_bytes ps ≤ job_image_bytes) e room.images))
+    kept_few draft.lines what (λ of. above (λ (q : Placed). share_of of q.what) draft.lines (placed_said (n + 1) says) p (limit_of of) (subst (λ ps. amount_of of ps ≤ limit_of of) e (room.limits of)))
 
 -- an event has room too
 no_refusal : (hart mask steps many : Bool) → hart ≡ false → mask ≡ true → steps ≡ false → many ≡ false → (let o : Option PushEnd = cond hart (Some pushed.Hart) (cond (not mask) (Some pushed.Mask) (cond steps (Some pushed.Steps) (cond many (Some pushed.Many) None))) in o) ≡ None

@@ -281,10 +281,7 @@ within job says is one read =
     let r = subst IsReadJob is read in
     record {
       harts = one;
-      machines = r.is.machines;
-      watches = r.is.watches;
-      dumps = r.is.dumps;
-      images = r.is.images;
+      limits = r.is.limits;
       steps = r.steps;
       events = r.many;
       commands = r.is.commanded;

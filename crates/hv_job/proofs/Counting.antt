@@ -1,41 +1,66 @@
--- Counts of directives, with one more behind.
-use Rattle.std.proofs.Common.{◌≡◌, ℕ, ◌+◌, ◌≤◌, Bool, false, cond, List, [], ◌∷◌, ◌++◌, sum_by, ap, ◌∙◌, arith, zero-add}
+-- How much directives take of what is limited.
+use Rattle.std.proofs.Common.{◌≡◌, ℕ, ◌+◌, ◌<◌, ◌≤◌, ◌^◌, nat_lt, true, false, cond, lit<, List, [], ◌∷◌, Option, Some, None, refl, ap, subst, ◌∙◌, arith, zero-add}
+use Rattle.std.proofs.lemmas.Bool.{ltb-false}
 use Rattle.std.proofs.lemmas.Bool.Decides.{nat_tests}
 use Rattle.std.proofs.lemmas.List.Sums.{sum_by-append}
-use Rattle.hv_line.specs.JobLimits.{job_dumps, job_image_bytes, job_machines, job_watches}
-use Rattle.hv_job.specs.IsJob.{bytes_of, count_of, image_bytes, is_dump, is_machine, is_watch}
-use Rattle.hv_job.specs.JobOf.{is_many, lines_with}
+use Rattle.hv_job.specs.Limited.{amount_of, is_same, limit_of, part_of, share_of, taken_by}
+use Rattle.hv_job.specs.JobOf.{is_many, is_past, lines_with}
 use Rattle.hv_line.specs.declared.types.Directive.{Directive}
-use Rattle.hv_line.specs.declared.types.Directive.TheVariants.{Machine, Image, Sample, Watch, Dump}
 use Rattle.hv_job.specs.declared.job.Placed.{Placed}
+use Rattle.hv_job.specs.declared.limited.Limited.{Limited}
+use Rattle.hv_job.specs.declared.limited.Limited.TheVariants as limited
+use Rattle.hv_job.specs.declared.limited.Share.{Share}
 
-summed : (f : Placed → ℕ) (lines : List Placed) (placed : Placed) → sum_by f (lines ++ placed ∷ []) ≡ sum_by f lines + f placed
-summed f lines placed = sum_by-append f lines (placed ∷ []) ∙ ap (λ n. sum_by f lines + n) (zero-add (f placed))
+-- one directive more
+pub amount_more : (of : Limited) (lines : List Placed) (number : ℕ) (what : Directive) → amount_of of (lines_with lines number what) ≡ amount_of of lines + share_of of what
+amount_more of lines number what =
+    sum_by-append (λ placed. share_of of placed.what) lines (record { line = number; what = what } ∷ [])
+    ∙ ap (λ n. amount_of of lines + n) (zero-add (share_of of what))
 
-pub counted : (is : Directive → Bool) (lines : List Placed) (number : ℕ) (what : Directive) → count_of is (lines_with lines number what) ≡ count_of is lines + cond (is what) 1 0
-counted is lines number what = summed (λ placed. cond (is placed.what) 1 0) lines (record { line = number; what = what })
+-- no limit is passed with a directive that does not take more than is left
+room_of : (of taken : Limited) (amount : ℕ) (lines : List Placed) → nat_lt (limit_of taken) (amount_of taken lines + amount) ≡ false → amount_of of lines ≤ limit_of of → amount_of of lines + cond (is_same of taken) amount 0 ≤ limit_of of
+room_of limited.Machines limited.Machines amount lines few le = ltb-false _ _ few
+room_of limited.Watches limited.Watches amount lines few le = ltb-false _ _ few
+room_of limited.Dumps limited.Dumps amount lines few le = ltb-false _ _ few
+room_of limited.ImageBytes limited.ImageBytes amount lines few le = ltb-false _ _ few
+room_of _ _ amount lines few le = omega arith
 
-pub sized : (lines : List Placed) (number : ℕ) (what : Directive) → image_bytes (lines_with lines number what) ≡ image_bytes lines + bytes_of what
-sized lines number what = summed (λ placed. bytes_of placed.what) lines (record { line = number; what = what })
+room_taken : (of : Limited) (lines : List Placed) (taken : Option Share) → is_past lines taken ≡ false → amount_of of lines ≤ limit_of of → amount_of of lines + part_of of taken ≤ limit_of of
+room_taken of lines None few le = omega arith
+room_taken of lines (Some share) few le = room_of of share.of share.amount lines few le
 
--- no limit is passed with a directive that is not one too many
-pub room_machines : (lines : List Placed) (what : Directive) → is_many lines what ≡ false → count_of is_machine lines ≤ job_machines → count_of is_machine lines + cond (is_machine what) 1 0 ≤ job_machines
+pub room : (of : Limited) (lines : List Placed) (what : Directive) → is_many lines what ≡ false → amount_of of lines ≤ limit_of of → amount_of of lines + share_of of what ≤ limit_of of
 unfolding is_many
-room_machines lines (Machine name parent block pages table at) few le = grind (arith, nat_tests)
-room_machines lines _ few le = omega arith
+room of lines what few le = room_taken of lines (taken_by what) few le
 
-pub room_watches : (lines : List Placed) (what : Directive) → is_many lines what ≡ false → count_of is_watch lines ≤ job_watches → count_of is_watch lines + cond (is_watch what) 1 0 ≤ job_watches
-unfolding is_many
-room_watches lines (Watch hart name) few le = grind (arith, nat_tests)
-room_watches lines _ few le = omega arith
+-- and it can be counted
+limit_small : (of : Limited) → limit_of of < 2 ^ 32
+limit_small limited.Machines = lit< tt
+limit_small limited.Watches = lit< tt
+limit_small limited.Dumps = lit< tt
+limit_small limited.ImageBytes = lit< tt
 
-pub room_dumps : (lines : List Placed) (what : Directive) → is_many lines what ≡ false → count_of is_dump lines ≤ job_dumps → count_of is_dump lines + cond (is_dump what) 1 0 ≤ job_dumps
+pub fits : (lines : List Placed) (what : Directive) (share : Share) → is_many lines what ≡ false → taken_by what ≡ Some share → amount_of share.of lines + share.amount < 2 ^ 32
 unfolding is_many
-room_dumps lines (Dump name page) few le = grind (arith, nat_tests)
-room_dumps lines _ few le = omega arith
+fits lines what share few taken =
+    let one : is_past lines (Some share) ≡ false = subst (λ t. is_past lines t ≡ false) taken few in
+    let le : amount_of share.of lines + share.amount ≤ limit_of share.of = ltb-false _ _ one in
+    omega (arith, le, limit_small share.of)
 
-pub room_bytes : (lines : List Placed) (what : Directive) → is_many lines what ≡ false → image_bytes lines ≤ job_image_bytes → image_bytes lines + bytes_of what ≤ job_image_bytes
+-- the other way: a directive with which all limits are kept does not take more than is left
+same : (of : Limited) → is_same of of ≡ true
+same limited.Machines = refl
+same limited.Watches = refl
+same limited.Dumps = refl
+same limited.ImageBytes = refl
+
+few_of : (taken : Limited) (amount : ℕ) (lines : List Placed) → amount_of taken lines + cond (is_same taken taken) amount 0 ≤ limit_of taken → nat_lt (limit_of taken) (amount_of taken lines + amount) ≡ false
+few_of taken amount lines le = let e = same taken in grind (arith, nat_tests)
+
+few_taken : (lines : List Placed) (taken : Option Share) → ((of : Limited) → amount_of of lines + part_of of taken ≤ limit_of of) → is_past lines taken ≡ false
+few_taken lines None keeps = refl
+few_taken lines (Some share) keeps = few_of share.of share.amount lines (keeps share.of)
+
+pub kept_few : (lines : List Placed) (what : Directive) → ((of : Limited) → amount_of of lines + share_of of what ≤ limit_of of) → is_many lines what ≡ false
 unfolding is_many
-room_bytes lines (Image name image) few le = grind (arith, nat_tests)
-room_bytes lines (Sample name image) few le = grind (arith, nat_tests)
-room_bytes lines _ few le = omega arith
+kept_few lines what keeps = few_taken lines (taken_by what) keeps

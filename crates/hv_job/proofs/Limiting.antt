@@ -17,7 +17,7 @@ use Rattle.hv_irq.specs.declared.PushEnd.TheVariants as pushed
 use Rattle.hv_limits.specs.Limits.{events_limit, steps_limit}
 use Rattle.hv_lex.specs.Lines.{lines_of}
 use Rattle.hv_samples.specs.Samples.{sample_text}
-use Rattle.hv_line.specs.JobLimits.{job_dumps, job_harts, job_image_bytes, job_machines, job_watches}
+use Rattle.hv_line.specs.JobLimits.{job_harts}
 use Rattle.hv_line.specs.Lines.{begins_with, has_words, is_allowed, is_header, words_of}
 use Rattle.hv_line.specs.Ranges.{IsImage, IsRanged, IsSize, IsStatement, has_event}
 use Rattle.hv_line.specs.Statements.{statement_of, storage_line_of}
@@ -30,14 +30,16 @@ use Rattle.hv_line.specs.declared.types.Statement.TheVariants as states
 use Rattle.hv_line.proofs.Ranging.{statement_ranged, storage_ranged}
 use Rattle.hv_job.specs.Commands.{commands_from}
 use Rattle.hv_job.specs.Drafted.{GivesJob}
-use Rattle.hv_job.specs.IsJob.{IsJob, count_of, event_in, event_of, happening_of, image_bytes, is_dump, is_machine, is_watch}
+use Rattle.hv_job.specs.IsJob.{IsJob, event_in, event_of, happening_of}
 use Rattle.hv_job.specs.JobOf.{begins_image, before_end, behind_storage, body_from, directive_with, draft_of, draft_with, event_directive, event_with, harts_with, header_from, image_lines_with, image_of, image_with, image_words, is_debug, is_end, is_many, job_in, job_of, job_with, line_with, lines_with, sample_with, schedule_with, storage_from, words_with}
+use Rattle.hv_job.specs.Limited.{amount_of, limit_of}
 use Rattle.hv_job.specs.declared.draft.Draft.{Draft}
 use Rattle.hv_job.specs.declared.ends.JobEnd.{JobEnd}
 use Rattle.hv_job.specs.declared.job.DebugLine.{DebugLine}
 use Rattle.hv_job.specs.declared.job.Job.{Job}
 use Rattle.hv_job.specs.declared.job.Placed.{Placed}
-use Rattle.hv_job.proofs.Counting.{counted, sized, room_machines, room_watches, room_dumps, room_bytes}
+use Rattle.hv_job.specs.declared.limited.Limited.{Limited}
+use Rattle.hv_job.proofs.Counting.{amount_more, room}
 use Rattle.hv_job.proofs.Entering.{AreCommands, commands_are, no_commands}
 use Rattle.hv_lex.specs.Refusing.{◌>>=◌, at_line}
 
@@ -47,10 +49,7 @@ pub record IsDraft (draft : Draft) : Type 0 where
   pub harts : (n : ℕ) → draft.harts ≡ Some n → (1 ≤ n) × (n ≤ job_harts)
   pub lines : All (λ p. IsRanged p.what) draft.lines
   pub events : map happening_of draft.recording ≡ filter_map event_of draft.lines
-  pub machines : count_of is_machine draft.lines ≤ job_machines
-  pub watches : count_of is_watch draft.lines ≤ job_watches
-  pub dumps : count_of is_dump draft.lines ≤ job_dumps
-  pub images : image_bytes draft.lines ≤ job_image_bytes
+  pub limits : (of : Limited) → amount_of of draft.lines ≤ limit_of of
   pub steps : total_of draft.recording ≤ steps_limit
   pub many : length draft.recording ≤ events_limit
 
@@ -60,10 +59,7 @@ draft_start pages size = record {
   harts = λ n is. cc;
   lines = All-nil (λ (p : Placed). IsRanged p.what);
   events = refl;
-  machines = omega arith;
-  watches = omega arith;
-  dumps = omega arith;
-  images = omega arith;
+  limits = λ of. omega arith;
   steps = omega arith;
   many = omega arith;
 }
@@ -82,10 +78,7 @@ grown draft n what recording is few ranged events steps many = record {
   events =
       events ∙ ap (λ es. es ++ cons_option (event_in what) []) is.events
       ∙ sym (filter_map-append event_of draft.lines (record { line = n; what = what } ∷ []));
-  machines = omega (arith, counted is_machine draft.lines n what, room_machines draft.lines what few is.machines);
-  watches = omega (arith, counted is_watch draft.lines n what, room_watches draft.lines what few is.watches);
-  dumps = omega (arith, counted is_dump draft.lines n what, room_dumps draft.lines what few is.dumps);
-  images = omega (arith, sized draft.lines n what, room_bytes draft.lines what few is.images);
+  limits = λ of. omega (arith, amount_more of draft.lines n what, room of draft.lines what few (is.limits of));
   steps = steps;
   many = many;
 }
@@ -152,10 +145,7 @@ harts_is draft new harts None is ranged made =
       harts = λ n same. let e : harts ≡ n = cc in (omega (arith, ranged.0), omega (arith, ranged.1));
       lines = is.lines;
       events = is.events;
-      machines = is.machines;
-      watches = is.watches;
-      dumps = is.dumps;
-      images = is.images;
+      limits = is.limits;
       steps = is.steps;
       many = is.many;
     })
@@ -251,10 +241,7 @@ job_in_is draft commands is are = record {
     harts = harts_in draft.harts is.harts;
     lines = is.lines;
     events = is.events;
-    machines = is.machines;
-    watches = is.watches;
-    dumps = is.dumps;
-    images = is.images;
+    limits = is.limits;
     commands = are.ranged;
     commanded = are.count;
     breaks = are.breaks;

@@ -1,43 +1,18 @@
 -- What holds of the job of a text: the values are in their ranges, and the limits are kept.
-use Rattle.std.specs.Prelude.{◌≡◌, ℕ, ◌*◌, ◌≤◌, Bool, true, false, List, length, map, All, count_by, sum_by, filter_map, Option, Some, None}
+use Rattle.std.specs.Prelude.{◌≡◌, ℕ, ◌≤◌, Bool, true, false, List, length, map, All, count_by, filter_map, Option, Some, None}
 use Rattle.hv_irq.specs.declared.Event.{Event}
 use Rattle.hv_irq.specs.declared.Event.TheVariants as event
-use Rattle.hv_line.specs.JobLimits.{job_breaks, job_commands, job_dumps, job_harts, job_image_bytes, job_machines, job_watches}
+use Rattle.hv_line.specs.JobLimits.{job_breaks, job_commands, job_harts}
 use Rattle.hv_line.specs.Ranges.{IsCommand, IsRanged, IsSize}
 use Rattle.hv_line.specs.declared.types.DebugCommand.{DebugCommand}
 use Rattle.hv_line.specs.declared.types.DebugCommand.TheVariants as command
 use Rattle.hv_line.specs.declared.types.Directive.{Directive}
 use Rattle.hv_line.specs.declared.types.Directive.TheVariants as directive
+use Rattle.hv_job.specs.Limited.{amount_of, limit_of}
 use Rattle.hv_job.specs.declared.job.DebugLine.{DebugLine}
 use Rattle.hv_job.specs.declared.job.Job.{Job}
 use Rattle.hv_job.specs.declared.job.Placed.{Placed}
-
--- which directive it is
-abbrev pub is_machine : Directive → Bool
-is_machine (directive.Machine name parent block pages table at) = true
-is_machine _ = false
-
-abbrev pub is_watch : Directive → Bool
-is_watch (directive.Watch hart name) = true
-is_watch _ = false
-
-abbrev pub is_dump : Directive → Bool
-is_dump (directive.Dump name page) = true
-is_dump _ = false
-
--- how many directives of these lines are of this kind
-abbrev pub count_of : (Directive → Bool) → List Placed → ℕ
-count_of is lines = count_by (λ placed. is placed.what) lines
-
--- how many bytes a directive has assembled
-abbrev pub bytes_of : Directive → ℕ
-bytes_of (directive.Image name image) = 4 * length image.words
-bytes_of (directive.Sample name image) = 4 * length image.words
-bytes_of _ = 0
-
--- how many bytes these lines have assembled
-abbrev pub image_bytes : List Placed → ℕ
-image_bytes lines = sum_by (λ placed. bytes_of placed.what) lines
+use Rattle.hv_job.specs.declared.limited.Limited.{Limited}
 
 -- an event without its number: a turn of this hart, or a change of its lines
 pub data Happening : Type 0 where
@@ -74,10 +49,7 @@ pub record IsJob (job : Job) : Type 0 where
   pub harts : (1 ≤ job.harts) × (job.harts ≤ job_harts)
   pub lines : All (λ placed. IsRanged placed.what) job.lines
   pub events : map happening_of job.recording ≡ filter_map event_of job.lines
-  pub machines : count_of is_machine job.lines ≤ job_machines
-  pub watches : count_of is_watch job.lines ≤ job_watches
-  pub dumps : count_of is_dump job.lines ≤ job_dumps
-  pub images : image_bytes job.lines ≤ job_image_bytes
+  pub limits : (of : Limited) → amount_of of job.lines ≤ limit_of of
   pub commands : All (λ line. IsCommand line.what) job.commands
   pub commanded : length job.commands ≤ job_commands
   pub breaks : breaks_in job.commands ≤ job_breaks

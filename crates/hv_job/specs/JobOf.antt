@@ -1,5 +1,5 @@
 -- The job of a text: the first refusal over all of its lines, or what they ask for.
-use Rattle.std.specs.Prelude.{ℕ, ◌+◌, ◌*◌, ◌&&◌, nat_lt, nat_le, not, Bool, true, false, if◌then◌else◌, List, [], ◌∷◌, ◌++◌, length, codes, find, take_while, unwrap_or, Option, Some, None, Result, Ok, Err}
+use Rattle.std.specs.Prelude.{ℕ, ◌+◌, ◌&&◌, nat_lt, not, Bool, true, false, if◌then◌else◌, List, [], ◌∷◌, ◌++◌, length, codes, find, take_while, unwrap_or, Option, Some, None, Result, Ok, Err}
 use Rattle.hv_asm.specs.Assembly.{asm_of, place_of, words_from}
 use Rattle.hv_asm.specs.declared.AsmKind.{AsmKind}
 use Rattle.hv_asm.specs.declared.AsmKind.TheVariants as asm
@@ -10,7 +10,6 @@ use Rattle.hv_irq.specs.declared.PushEnd.{PushEnd}
 use Rattle.hv_irq.specs.declared.PushEnd.TheVariants as pushed
 use Rattle.hv_lex.specs.Lines.{lines_of}
 use Rattle.hv_samples.specs.Samples.{sample_text}
-use Rattle.hv_line.specs.JobLimits.{job_dumps, job_image_bytes, job_machines, job_watches}
 use Rattle.hv_line.specs.Lines.{begins_with, has_words, is_allowed, is_header, is_only, words_of}
 use Rattle.hv_line.specs.Statements.{statement_of, storage_line_of}
 use Rattle.hv_line.specs.declared.kinds.JobKind.{JobKind}
@@ -20,12 +19,13 @@ use Rattle.hv_line.specs.declared.types.Directive.TheVariants as directive
 use Rattle.hv_line.specs.declared.types.Statement.{Statement}
 use Rattle.hv_line.specs.declared.types.Statement.TheVariants as states
 use Rattle.hv_job.specs.Commands.{commands_from}
-use Rattle.hv_job.specs.IsJob.{count_of, image_bytes, is_dump, is_machine, is_watch}
+use Rattle.hv_job.specs.Limited.{amount_of, limit_of, taken_by}
 use Rattle.hv_job.specs.declared.draft.Draft.{Draft}
 use Rattle.hv_job.specs.declared.job.DebugLine.{DebugLine}
 use Rattle.hv_job.specs.declared.job.Job.{Job}
 use Rattle.hv_job.specs.declared.job.Placed.{Placed}
 use Rattle.hv_lex.specs.Refusing.{◌>>=◌, at_line}
+use Rattle.hv_job.specs.declared.limited.Share.{Share}
 
 -- a job, or the number of a line and why it is refused
 abbrev pub ReadJob : Type 0
@@ -35,14 +35,14 @@ ReadJob = Result Job (ℕ × JobKind)
 unfoldable pub is_end : List ℕ → Bool
 is_end line = is_only (codes "end") (words_of line)
 
--- a limit that a directive behind these lines passes
+-- whether what is taken behind these lines is more than they leave of it
+abbrev pub is_past : List Placed → Option Share → Bool
+is_past lines None = false
+is_past lines (Some share) = nat_lt (limit_of share.of) (amount_of share.of lines + share.amount)
+
+-- a directive that takes more than these lines leave
 unfoldable pub is_many : List Placed → Directive → Bool
-is_many lines (directive.Machine name parent block pages table at) = nat_le job_machines (count_of is_machine lines)
-is_many lines (directive.Watch hart name) = nat_le job_watches (count_of is_watch lines)
-is_many lines (directive.Dump name page) = nat_le job_dumps (count_of is_dump lines)
-is_many lines (directive.Image name image) = nat_lt job_image_bytes (image_bytes lines + 4 * length image.words)
-is_many lines (directive.Sample name image) = nat_lt job_image_bytes (image_bytes lines + 4 * length image.words)
-is_many lines _ = false
+is_many lines what = is_past lines (taken_by what)
 
 -- the lines with a directive on the line of this number behind them
 abbrev pub lines_with : List Placed → ℕ → Directive → List Placed

@@ -3,3 +3,4 @@ pub mod Drafted
 pub mod Inside
 pub mod IsJob
 pub mod JobOf
+pub mod Limited

@@ -1,90 +1,42 @@
 //! What the lines of a text have so far.
 
-ghost use Rattle.std.specs.Prelude.{◌≡◌, ◌*◌, ◌%◌, if◌then◌else◌, false, List, [], OnOk};
+ghost use Rattle.std.specs.Prelude.{◌≡◌, ◌%◌, false, List, [], OnOk};
 ghost use Rattle.hv_asm.specs.Assembly.{asm_of};
 ghost use Rattle.hv_samples.specs.Samples.{sample_text};
 ghost use Rattle.hv_job.specs.Drafted.{Makes};
-ghost use Rattle.hv_job.specs.IsJob.{bytes_of, is_dump, is_machine, is_watch};
 ghost use Rattle.hv_job.specs.JobOf.{directive_with, draft_of, event_directive, harts_with, is_many as is_many_of, job_in, lines_with, sample_with, schedule_with};
 ghost use Rattle.hv_job.specs.declared.job.Placed.{Placed};
 
 use crate::job::{DebugLine, Job, Placed};
+use crate::limited::{Amounts, taken_by};
 use hv_asm::{AsmEnd, assemble};
 use hv_irq::{Event, PushEnd, Recording};
-use hv_line::{
-    Directive, JOB_DUMPS, JOB_IMAGE_BYTES, JOB_MACHINES, JOB_WATCHES, JobKind, JobLineEnd, Name,
-};
+use hv_line::{Directive, JobKind, JobLineEnd, Name};
 use hv_list::Items;
 use hv_samples::{Sample, sample};
 use std::alloc::{AllocError, Global};
 use std::marker::Model;
 
-/// The directives so far, in the order of their lines, with how many there are of each kind that has a limit, and the
-/// bytes of all images. It is seen as the list of the directives.
+/// The directives so far, in the order of their lines, and how much they take of what is limited. It is seen as the list
+/// of the directives.
 #[derive(Drop)]
 pub(crate) struct Directives {
     items: Vec<Placed>,
-    machines: u32,
-    watches: u32,
-    dumps: u32,
-    bytes: u32,
+    amounts: Amounts,
 }
 
 impl Model for Directives {
     ghost use Rattle.std.specs.Prelude.{◌≡◌, ◌≤◌, List};
-    ghost use Rattle.hv_job.specs.IsJob.{count_of, image_bytes, is_dump, is_machine, is_watch};
+    ghost use Rattle.hv_job.specs.Limited.{amount_of, counted_of, limit_of};
     ghost use Rattle.hv_job.specs.declared.job.Placed.{Placed};
-    ghost use Rattle.hv_line.specs.JobLimits.{job_dumps, job_image_bytes, job_machines, job_watches};
+    ghost use Rattle.hv_job.specs.declared.limited.Limited.{Limited};
 
     ghost Value = { List Placed };
 
     ghost view = { λ d. d.items.items };
 
-    ghost invariant = { λ d. (d.machines ≡ count_of is_machine d.items.items) × (d.watches ≡ count_of is_watch d.items.items)
-        × (d.dumps ≡ count_of is_dump d.items.items) × (d.bytes ≡ image_bytes d.items.items)
-        × (d.machines ≤ job_machines) × (d.watches ≤ job_watches) × (d.dumps ≤ job_dumps) × (d.bytes ≤ job_image_bytes) };
-}
-
-// Whether it is a machine, as a number.
-fn machines_in(what: &Directive) -> u32
-    ensures { result ≡ (if is_machine what.now then 1 else 0) }
-{
-    match what {
-        Directive::Machine { .. } => 1,
-        _ => 0,
-    }
-}
-
-// Whether it is a watch, as a number.
-fn watches_in(what: &Directive) -> u32
-    ensures { result ≡ (if is_watch what.now then 1 else 0) }
-{
-    match what {
-        Directive::Watch { .. } => 1,
-        _ => 0,
-    }
-}
-
-// Whether it is a dump, as a number.
-fn dumps_in(what: &Directive) -> u32
-    ensures { result ≡ (if is_dump what.now then 1 else 0) }
-{
-    match what {
-        Directive::Dump { .. } => 1,
-        _ => 0,
-    }
-}
-
-// The words of an image.
-fn words_in(what: &Directive) -> usize
-    ensures { 4 * result ≡ bytes_of what.now }
-{
-    match what {
-        Directive::Image { image, .. } | Directive::Sample { image, .. } => {
-            image.words.as_slice().len()
-        }
-        _ => 0,
-    }
+    ghost invariant = { λ d. (of : Limited)
+        → (counted_of d.amounts of ≡ amount_of of d.items.items) × (amount_of of d.items.items ≤ limit_of of) };
 }
 
 // The directive beside an event.
@@ -105,43 +57,31 @@ impl Directives {
     {
         Directives {
             items: Vec::new(alloc),
-            machines: 0,
-            watches: 0,
-            dumps: 0,
-            bytes: 0,
+            amounts: Amounts::new(),
         }
     }
 
-    // Whether a limit is passed with a directive.
+    // Whether a directive takes more than is left.
     #[tactic(auto, unfolding(crate::specs::JobOf::is_many))]
     fn is_many(&self, what: &Directive) -> bool
         ensures { result ≡ is_many_of self.now what.now }
     {
-        match what {
-            Directive::Machine { .. } => self.machines >= JOB_MACHINES,
-            Directive::Watch { .. } => self.watches >= JOB_WATCHES,
-            Directive::Dump { .. } => self.dumps >= JOB_DUMPS,
-            Directive::Image { .. } | Directive::Sample { .. } => {
-                words_in(what) > (JOB_IMAGE_BYTES - self.bytes) as usize / 4
+        match taken_by(what) {
+            Some(share) => {
+                share.amount > (share.of.limit() - self.amounts.of(share.of)) as usize
             }
-            _ => false,
+            None => false,
         }
     }
 
-    // Appends a directive that passes no limit.
+    // Appends a directive that does not take more than is left.
     fn push(&mut self, line: u32, what: Directive) -> Result<(), AllocError>
         requires { is_many_of self.old what ≡ false }
         ensures { OnOk result (self.new ≡ lines_with self.old line what) }
     {
-        let machines = machines_in(&what);
-        let watches = watches_in(&what);
-        let dumps = dumps_in(&what);
-        let words = words_in(&what);
+        let taken = taken_by(&what);
         self.items.push(Placed { line, what })?;
-        self.machines += machines;
-        self.watches += watches;
-        self.dumps += dumps;
-        self.bytes += 4 * words as u32;
+        self.amounts.add(taken);
         Ok(())
     }
 

@@ -12,11 +12,13 @@ mod draft;
 mod ends;
 mod images;
 mod job;
+mod limited;
 
 use body::{read_body, read_header, read_storage};
 pub use ends::JobEnd;
 pub use hv_line::{DebugCommand, Directive, JobKind, Name};
 pub use job::{DebugLine, Job, Placed};
+pub use limited::Limited;
 use std::alloc::Global;
 
 /// The job of a text, which has at most 2^32 - 2 bytes. A refusal is that of the first line that is refused; a line of

@@ -9,10 +9,13 @@ use Rattle.hv_irq.specs.declared.Event.{Event}
 use Rattle.hv_irq.specs.declared.Event.TheVariants.{Turn}
 use Rattle.hv_isa.specs.declared.Instr.{Instr}
 use Rattle.hv_line.specs.Ranges.{IsCommand, IsRanged}
-use Rattle.hv_job.specs.IsJob.{IsJob, TurnOf, bytes_of, event_of, happening_of, is_dump, is_machine, is_watch}
+use Rattle.hv_job.specs.IsJob.{IsJob, TurnOf, event_of, happening_of}
+use Rattle.hv_job.specs.Limited.{amount_of, limit_of, share_of}
 use Rattle.hv_job.specs.declared.job.DebugLine.{DebugLine}
 use Rattle.hv_job.specs.declared.job.Job.{Job}
 use Rattle.hv_job.specs.declared.job.Placed.{Placed}
+use Rattle.hv_job.specs.declared.limited.Limited.{Limited}
+use Rattle.hv_job.specs.declared.limited.Limited.TheVariants as limited
 use Rattle.hv_load.specs.Generator.{addition, additions, depths, job_with, jump_back, kernel_line, kernel_of, lines_of, long_turn, next, number_at, schedule_of, tower_line, turn_line, turn_lines, watch_line, word_of}
 
 pub number_none : (seed : ℕ) → number_at seed 0 ≡ seed
@@ -114,6 +117,16 @@ ranged depth kernel turns low size =
     All-cons P (tower_line depth) (kernel_line kernel ∷ turn_lines turns ++ watch_line turns ∷ []) tower
     (All-cons P (kernel_line kernel) (turn_lines turns ++ watch_line turns ∷ []) image behind)
 
+-- what the lines take of what is limited: the watch, and the bytes of the one image
+amounts : (of : Limited) (depth : ℕ) (kernel : List ℕ) (turns : ℕ) → amount_of of (lines_of depth kernel turns) ≡ share_of of (tower_line depth).what + (share_of of (kernel_line kernel).what + share_of of (watch_line turns).what)
+amounts of depth kernel turns = counted (λ placed. share_of of placed.what) (λ k. refl) depth kernel turns
+
+kept : (of : Limited) (depth : ℕ) (kernel : List ℕ) (turns : ℕ) → length kernel ≡ 512 → amount_of of (lines_of depth kernel turns) ≤ limit_of of
+kept limited.Machines depth kernel turns size = omega (arith, amounts limited.Machines depth kernel turns)
+kept limited.Watches depth kernel turns size = omega (arith, amounts limited.Watches depth kernel turns)
+kept limited.Dumps depth kernel turns size = omega (arith, amounts limited.Dumps depth kernel turns)
+kept limited.ImageBytes depth kernel turns size = omega (arith, amounts limited.ImageBytes depth kernel turns, size)
+
 -- the job is one that can be built
 job_meets : (depth : ℕ) (kernel : List ℕ) → depth < depths → length kernel ≡ 512 → IsJob (job_with depth kernel (schedule_of depth))
 job_meets depth kernel low size =
@@ -123,10 +136,7 @@ job_meets depth kernel low size =
       harts = (lit≤ tt, lit≤ tt);
       lines = ranged depth kernel turns low size;
       events = schedule_events depth ∙ sym (line_events depth kernel turns);
-      machines = omega (arith, counted (λ placed. cond (is_machine placed.what) 1 0) (λ k. refl) depth kernel turns);
-      watches = omega (arith, counted (λ placed. cond (is_watch placed.what) 1 0) (λ k. refl) depth kernel turns);
-      dumps = omega (arith, counted (λ placed. cond (is_dump placed.what) 1 0) (λ k. refl) depth kernel turns);
-      images = omega (arith, counted (λ placed. bytes_of placed.what) (λ k. refl) depth kernel turns, size);
+      limits = λ of. kept of depth kernel turns size;
       commands = All-nil (λ (line : DebugLine). IsCommand line.what);
       commanded = lit≤ tt;
       breaks = lit≤ tt;

@@ -9,11 +9,13 @@ use Rattle.std.proofs.lemmas.List.{length-map, length-replicate}
 use Rattle.std.proofs.lemmas.List.Elements.{All-push, All-replicate, All-set}
 use Rattle.hv_asm.specs.declared.Image.{Image}
 use Rattle.hv_cpu.specs.Regs.{reset_regs}
-use Rattle.hv_job.specs.IsJob.{IsJob, count_of, is_dump, is_watch}
+use Rattle.hv_job.specs.IsJob.{IsJob}
+use Rattle.hv_job.specs.Limited.{amount_of, share_of}
 use Rattle.hv_job.specs.declared.job.Job.{Job}
 use Rattle.hv_line.specs.declared.types.Directive.{Directive}
 use Rattle.hv_line.specs.declared.types.Directive.TheVariants as directive
 use Rattle.hv_job.specs.declared.job.Placed.{Placed}
+use Rattle.hv_job.specs.declared.limited.Limited.TheVariants as limited
 use Rattle.hv_map.specs.Chain.{map_along, map_of, pin_of, IsThere}
 use Rattle.hv_limits.specs.Limits.{depth_limit, pages_limit}
 use Rattle.hv_map.specs.Item.{Item}
@@ -253,7 +255,7 @@ tower_keeps b n line depth pages which is =
         made m (with_top m found.0) n 0 0 _ (same m (with_top m found.0) refl refl refl refl) refl found.2
 
 -- each directive keeps the storage's and the harts' number, and asks for no more than what it is
-pub done_keeps : (b n : Building) (line : ℕ) (what : Directive) → done_of b line what ≡ Ok n → KeepsBuilding b n (cond (is_watch what) 1 0) (cond (is_dump what) 1 0)
+pub done_keeps : (b n : Building) (line : ℕ) (what : Directive) → done_of b line what ≡ Ok n → KeepsBuilding b n (share_of limited.Watches what) (share_of limited.Dumps what)
 done_keeps b n line (directive.Hart hart pc) is = hart_keeps b n hart pc is
 done_keeps b n line (directive.Machine name parent block pages table at) is = machine_keeps b n name parent block pages table at is
 done_keeps b n line (directive.Map name page entry) is = mapped_keeps b n name page entry is
@@ -276,18 +278,18 @@ and_then_bound : {A B : Type 0} (r : Result A (ℕ × BuildKind)) (f : A → Res
 and_then_bound (Ok x) f y is = (x, refl, is)
 and_then_bound (Err end) f y is = absurd (failed end y (Err end) refl is)
 
-counted : (b n : Building) (p : Placed) (lines : List Placed) → KeepsBuilding b n (cond (is_watch p.what) 1 0 + count_of is_watch lines) (cond (is_dump p.what) 1 0 + count_of is_dump lines) → KeepsBuilding b n (count_of is_watch (p ∷ lines)) (count_of is_dump (p ∷ lines))
+counted : (b n : Building) (p : Placed) (lines : List Placed) → KeepsBuilding b n (share_of limited.Watches p.what + amount_of limited.Watches lines) (share_of limited.Dumps p.what + amount_of limited.Dumps lines) → KeepsBuilding b n (amount_of limited.Watches (p ∷ lines)) (amount_of limited.Dumps (p ∷ lines))
 counted b n p lines keeps =
-    subst (λ (w : ℕ). KeepsBuilding b n w (count_of is_dump (p ∷ lines))) (sym (sum_by-cons (λ (placed : Placed). cond (is_watch placed.what) 1 0) p lines))
-    (subst (KeepsBuilding b n (cond (is_watch p.what) 1 0 + count_of is_watch lines)) (sym (sum_by-cons (λ (placed : Placed). cond (is_dump placed.what) 1 0) p lines)) keeps)
+    subst (λ (w : ℕ). KeepsBuilding b n w (amount_of limited.Dumps (p ∷ lines))) (sym (sum_by-cons (λ (placed : Placed). share_of limited.Watches placed.what) p lines))
+    (subst (KeepsBuilding b n (share_of limited.Watches p.what + amount_of limited.Watches lines)) (sym (sum_by-cons (λ (placed : Placed). share_of limited.Dumps placed.what) p lines)) keeps)
 
-lines_keep : (b n : Building) (lines : List Placed) → built_from b lines ≡ Ok n → KeepsBuilding b n (count_of is_watch lines) (count_of is_dump lines)
+lines_keep : (b n : Building) (lines : List Placed) → built_from b lines ≡ Ok n → KeepsBuilding b n (amount_of limited.Watches lines) (amount_of limited.Dumps lines)
 unfolding built_from
 lines_keep b n [] is = made b b n 0 0 _ (same b b refl refl refl refl) refl is
 lines_keep b n (p ∷ lines) is =
     let first = and_then_bound (at_line p.line (done_of b p.line p.what)) (λ next. built_from next lines) n is in
     counted b n p lines
-    (both b first.0 n (cond (is_watch p.what) 1 0) (cond (is_dump p.what) 1 0) (count_of is_watch lines) (count_of is_dump lines) (done_keeps b first.0 p.line p.what (at_line_bound p.line (done_of b p.line p.what) first.0 first.1)) (lines_keep first.0 n lines first.2))
+    (both b first.0 n (share_of limited.Watches p.what) (share_of limited.Dumps p.what) (amount_of limited.Watches lines) (amount_of limited.Dumps lines) (done_keeps b first.0 p.line p.what (at_line_bound p.line (done_of b p.line p.what) first.0 first.1)) (lines_keep first.0 n lines first.2))
 
 -- a machine that can be watched is there
 can_be_there : (S : List ℕ) (o : Option (List Item)) → can_watch (option_map (map_along S) o) ≡ true → IsThere S o
@@ -330,7 +332,7 @@ unfolding build_of zeros
 ready job start is_job is =
     let lines = and_then_bound (built_from (nothing_built job.pages job.harts) job.lines) (end_of job.commands) start is in
     let b : Building = lines.0 in
-    let keeps : KeepsBuilding (nothing_built job.pages job.harts) b (count_of is_watch job.lines) (count_of is_dump job.lines) = lines_keep (nothing_built job.pages job.harts) b job.lines lines.1 in
+    let keeps : KeepsBuilding (nothing_built job.pages job.harts) b (amount_of limited.Watches job.lines) (amount_of limited.Dumps job.lines) = lines_keep (nothing_built job.pages job.harts) b job.lines lines.1 in
     let end = unfaulted b (watch_fault b.storage b.watches) start (unrefused b (command_fault b job.commands) start lines.2) in
     let harts : length b.harts ≡ job.harts = keeps.harts ∙ length-replicate job.harts reset_regs in
     let asked : All (IsAsked (length (nothing_built job.pages job.harts).harts)) b.watches = keeps.asked (λ k d lt. absurd (omega arith)) in
@@ -340,8 +342,8 @@ ready job start is_job is =
       harts = harts;
       idle = keeps.idle (All-replicate (λ r. r.next ≡ 0) job.harts reset_regs refl);
       watches = all_watched b.storage (length b.harts) b.watches end.0 (subst (λ (k : ℕ). All (IsAsked k) b.watches) (sym keeps.harts) asked);
-      few = omega (arith, length-map b.watches watch_asked, keeps.watches, is_job.watches);
-      dumps = omega (arith, keeps.dumps, is_job.dumps);
+      few = omega (arith, length-map b.watches watch_asked, keeps.watches, is_job.limits limited.Watches);
+      dumps = omega (arith, keeps.dumps, is_job.limits limited.Dumps);
     })
 
 -- the same of what is answered

@@ -11,10 +11,11 @@ use Rattle.hv_word.specs.Storage.{page_count}
 use Rattle.hv_block.proofs.Words.{sets_outside}
 use Rattle.hv_map.specs.Chain.{map_of}
 use Rattle.hv_map.specs.declared.path.Watch.{Watch}
-use Rattle.hv_job.specs.IsJob.{count_of, is_watch}
+use Rattle.hv_job.specs.Limited.{amount_of, share_of}
 use Rattle.hv_line.specs.declared.types.Directive.{Directive}
 use Rattle.hv_line.specs.declared.types.Directive.TheVariants as directive
 use Rattle.hv_job.specs.declared.job.Placed.{Placed}
+use Rattle.hv_job.specs.declared.limited.Limited.TheVariants as limited
 use Rattle.hv_load.specs.declared.ends.BuildKind.{BuildKind}
 use Rattle.hv_load.specs.declared.ends.BuildKind.TheVariants as kind
 use Rattle.hv_load.specs.Building.{Building, Known, known}
@@ -183,7 +184,7 @@ match_lines N base (p ∷ lines) S T h = match_lines N base lines (put base S p.
 no_watch : (depth c : ℕ) → replicate c (let w : Watch = record { hart = 0; path = replicate depth 1 } in w) ≡ replicate (0 + c) (let w : Watch = record { hart = 0; path = replicate depth 1 } in w)
 no_watch depth c = let e : c ≡ 0 + c = omega arith in ap (λ (k : ℕ). let ws : List Watch = replicate k record { hart = 0; path = replicate depth 1 } in ws) e
 
-one_watch : (depth c : ℕ) (what : Directive) → watched depth what ++ replicate c record { hart = 0; path = replicate depth 1 } ≡ replicate (cond (is_watch what) 1 0 + c) record { hart = 0; path = replicate depth 1 }
+one_watch : (depth c : ℕ) (what : Directive) → watched depth what ++ replicate c record { hart = 0; path = replicate depth 1 } ≡ replicate (share_of limited.Watches what + c) record { hart = 0; path = replicate depth 1 }
 one_watch depth c (directive.Watch hart name) = let e : suc c ≡ 1 + c = omega arith in ap (λ (k : ℕ). let ws : List Watch = replicate k record { hart = 0; path = replicate depth 1 } in ws) e
 one_watch depth c (directive.Image name image) = no_watch depth c
 one_watch depth c (directive.Word name at values) = no_watch depth c
@@ -197,9 +198,9 @@ one_watch depth c (directive.Tower depth_of pages which) = no_watch depth c
 one_watch depth c (directive.Lines hart) = no_watch depth c
 one_watch depth c (directive.Dump name page) = no_watch depth c
 
-pub watches_are : (depth : ℕ) (lines : List Placed) → watched_lines depth lines ≡ replicate (count_of is_watch lines) record { hart = 0; path = replicate depth 1 }
+pub watches_are : (depth : ℕ) (lines : List Placed) → watched_lines depth lines ≡ replicate (amount_of limited.Watches lines) record { hart = 0; path = replicate depth 1 }
 watches_are depth [] = refl
 watches_are depth (p ∷ lines) =
     ap (λ (ws : List Watch). watched depth p.what ++ ws) (watches_are depth lines)
-    ∙ one_watch depth (count_of is_watch lines) p.what
-    ∙ ap (λ (k : ℕ). let ws : List Watch = replicate k record { hart = 0; path = replicate depth 1 } in ws) (sym (sum_by-cons (λ (placed : Placed). cond (is_watch placed.what) 1 0) p lines))
+    ∙ one_watch depth (amount_of limited.Watches lines) p.what
+    ∙ ap (λ (k : ℕ). let ws : List Watch = replicate k record { hart = 0; path = replicate depth 1 } in ws) (sym (sum_by-cons (λ (placed : Placed). share_of limited.Watches placed.what) p lines))

@@ -2,11 +2,12 @@
 use Rattle.std.specs.Prelude.{◌≡◌, ℕ, ◌≤◌, List, [], ◌∷◌, replicate, All, Ok, codes}
 use Rattle.hv_limits.specs.Limits.{depth_limit, pages_limit}
 use Rattle.hv_cpu.specs.Regs.{reset_regs}
-use Rattle.hv_job.specs.IsJob.{count_of, is_watch}
+use Rattle.hv_job.specs.Limited.{amount_of}
 use Rattle.hv_line.specs.declared.types.Directive.{Directive}
 use Rattle.hv_line.specs.declared.types.Directive.TheVariants as directive
 use Rattle.hv_job.specs.declared.job.Job.{Job}
 use Rattle.hv_job.specs.declared.job.Placed.{Placed}
+use Rattle.hv_job.specs.declared.limited.Limited.TheVariants as limited
 use Rattle.hv_load.specs.Build.{build_of}
 use Rattle.hv_load.specs.declared.start.Start.{Start}
 use Rattle.hv_map.specs.Item.{Item}
@@ -37,7 +38,7 @@ pub record TowerBuilt (depth top : ℕ) (parts : List Placed) (start alone : Sta
   pub laid : Laid depth top start.store alone.store items
   pub harts : start.harts ≡ reset_regs ∷ []
   pub watches :
-      start.plan.watches ≡ replicate (count_of is_watch parts) record { hart = 0; path = replicate depth 1 }
+      start.plan.watches ≡ replicate (amount_of limited.Watches parts) record { hart = 0; path = replicate depth 1 }
 
 -- Where a job with a tower and one hart is built, and the same lines without the tower are too.
 abbrev pub TowerBuildLaw : Type 0

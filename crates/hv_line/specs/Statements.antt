@@ -15,6 +15,7 @@ use Rattle.hv_line.specs.declared.kinds.JobKind.TheVariants as fault
 use Rattle.hv_line.specs.declared.types.Directive.TheVariants as directive
 use Rattle.hv_line.specs.declared.types.Statement.{Statement}
 use Rattle.hv_line.specs.declared.types.Statement.TheVariants as states
+use Rattle.hv_lex.specs.Refusing.{◌>>=◌}
 
 -- a word that is this text
 unfoldable pub fixed : List ℕ → List ℕ → Result (Unit {0}) JobKind

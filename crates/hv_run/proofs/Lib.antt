@@ -1,6 +1,6 @@
-pub mod Begins
 pub mod Changes
 pub mod Guests
+pub mod Inside
 pub mod Lists
 pub mod Moves
 pub mod Orders

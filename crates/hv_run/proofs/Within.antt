@@ -25,8 +25,15 @@ all_within n h st ws within k d lt =
     (record_within _ _ _ _ n (get_or ws k d).so_far (within k d inside).0 (within k d inside).1)
 
 -- a part that was written back into the whole
-pub written_back : (n : ℕ) (xs ys : List Watching) → length xs ≡ n → take n (xs ++ drop (length xs) ys) ≡ xs
+written_back : (n : ℕ) (xs ys : List Watching) → length xs ≡ n → take n (xs ++ drop (length xs) ys) ≡ xs
 written_back n xs ys e = take_at xs (drop (length xs) ys) n e
+
+-- the same where each of the whole was told a move
+pub told_back : (n : ℕ) (h : Happened) (st : State) (xs ys old : List Watching) → xs ≡ all_after h st ys → ys ≡ old → n ≡ length old → take n (xs ++ drop (length xs) old) ≡ all_after h st old
+told_back n h st xs ys old told is len =
+    let now : xs ≡ all_after h st old = told ∙ ap (all_after h st) is in
+    let long : length xs ≡ n = omega (arith, ap length now, length-map old (watched_after h st)) in
+    written_back n xs old long ∙ now
 
 -- one more watch is told a move
 pub same_at : (xs old : List Watching) (i : ℕ) (d : Watching) → drop i xs ≡ drop i old → get_or xs i d ≡ get_or old i d

@@ -65,6 +65,10 @@ abbrev pub counts_step : WatchRecord → (hart : ℕ) → (running : List ℕ) �
 counts_step w hart running kind =
     (hart == w.hart) && (begins w.path running && not (is_outside (length w.path) kind))
 
+-- of each watch, in order, whether its path begins the running one
+abbrev pub inside_of : (running : List ℕ) → List Watching → List Bool
+inside_of running ws = map (λ (w : Watching). begins w.so_far.path running) ws
+
 -- whether a move counts for a watch
 abbrev pub counts_for : WatchRecord → Happened → Bool
 counts_for w (Stepped hart running kind changed) = counts_step w hart running kind

@@ -8,6 +8,7 @@ pub mod laws;
 mod moving;
 mod playing;
 mod record;
+mod running;
 mod starting;
 mod text;
 mod watched;

@@ -1,11 +1,11 @@
 //! A play that goes on: moves of the bare machine, one after another, and what is told of them.
 
-ghost use Rattle.std.specs.Prelude.{◌≡◌, ◌≢◌, ◌≤◌, ◌+◌, ◌<◌, ◌^◌, ◌-◌, [], ◌∷◌, IfOk, Some, bit_and, length, replicate, slice_get, vec_capacity};
+ghost use Rattle.std.specs.Prelude.{◌≡◌, ◌≤◌, ◌+◌, ◌<◌, ◌^◌, ◌-◌, [], ◌∷◌, IfOk, Some, bit_and, length, replicate, slice_get, vec_capacity};
 ghost use Rattle.hv_limits.specs.Limits.{lines_mask};
 ghost use Rattle.hv_nest.specs.Changes.{differences};
-ghost use Rattle.hv_nest.specs.Move.{StepOf, LinesOf, moved_of, lined_state, last_of, running_of};
+ghost use Rattle.hv_nest.specs.Move.{StepOf, LinesOf, moved_of, lined_state, last_of};
 ghost use Rattle.hv_irq.specs.Events.{hart_of, mask_of, steps_of};
-ghost use Rattle.hv_run.specs.Play.{Stepped, Lined, all_after, played_after, all_so_far, play_record, TellsWithin};
+ghost use Rattle.hv_run.specs.Play.{Stepped, Lined, all_after, played_after, all_so_far, play_record, inside_of, TellsWithin};
 ghost use Rattle.hv_run.specs.Promises.{AreBareRunsWith, IsRoutedIn, fault_in};
 ghost use Rattle.hv_run.specs.Record.{moves_of};
 ghost use Rattle.hv_run.specs.Stands.{CanWatch, EachNew, Follows, StandsFor, watches_of};
@@ -13,11 +13,12 @@ ghost use Rattle.hv_run.specs.Stands.{CanWatch, EachNew, Follows, StandsFor, wat
 use crate::counts::Counts;
 use crate::fault::FaultRow;
 use crate::record::{Record, WatchRow};
+use crate::running::Running;
 use crate::starting::start;
 use crate::watched::Watched;
 use hv_irq::Event;
 use hv_list::Items;
-use hv_map::{Path, Watch};
+use hv_map::Watch;
 use hv_nest::{Nested, Outcome};
 use std::alloc::{AllocError, Global};
 use std::marker::Model;
@@ -29,19 +30,21 @@ pub struct Play {
     calls: u64,
     counts: Counts,
     watched: Vec<Watched>,
+    // the path that a hart ran last, and which paths of watches begin it
+    running: Running,
     // room for what is told of the watches in the end
     rows: Vec<WatchRow>,
 }
 
 impl Model for Play {
     ghost use Rattle.std.specs.Prelude.{◌≡◌, ◌≤◌, [], length, vec_capacity};
-    ghost use Rattle.hv_run.specs.Play.{Played, CountsWithin, TellsWithin};
+    ghost use Rattle.hv_run.specs.Play.{Played, CountsWithin, TellsWithin, inside_of};
 
     ghost Value = { Played };
 
     ghost view = { λ p. record { calls = p.calls; counts = p.counts; watching = p.watched.items } };
 
-    ghost invariant = { λ p. CountsWithin p.calls p.counts × TellsWithin p.calls p.watched.items × (p.rows.items ≡ []) × (length p.watched.items ≤ vec_capacity p.rows) };
+    ghost invariant = { λ p. CountsWithin p.calls p.counts × TellsWithin p.calls p.watched.items × (p.rows.items ≡ []) × (length p.watched.items ≤ vec_capacity p.rows) × (p.running.inside.items ≡ inside_of p.running.path p.watched.items) };
 }
 
 impl Play {
@@ -59,11 +62,13 @@ impl Play {
     {
         let watched = start_all(alloc, nested, watches)?;
         let counts = Counts::new(alloc)?;
+        let running = Running::new(alloc, &watched)?;
         let rows = Vec::with_capacity(alloc, watches.len())?;
         Ok(Play {
             calls: 0,
             counts,
             watched,
+            running,
             rows,
         })
     }
@@ -82,9 +87,8 @@ impl Play {
         ensures guests { AreBareRunsWith self.old (N.state nested.old) (StepOf hart ∷ []) }
         ensures routed { IsRoutedIn (N.state nested.old) hart (fault_in result.kind) }
     {
-        let mut running = Path::new();
         let mut outcome = Outcome::none();
-        self.make_turn(nested, hart, &mut running, &mut outcome);
+        self.make_turn(nested, hart, &mut outcome);
         outcome
     }
 
@@ -134,6 +138,7 @@ impl Play {
             calls: _,
             counts,
             watched,
+            running: _,
             rows,
         } = self;
         Record {
@@ -168,23 +173,15 @@ impl Play {
         ensures harts { length (N.state nested.new).harts ≡ length (N.state nested.old).harts }
         ensures stands { Follows self.old (N.state nested.old) self.new (N.state nested.new) (replicate count (StepOf hart)) }
     {
-        let mut running = Path::new();
         let mut outcome = Outcome::none();
         for _step in 0..count {
-            self.make_turn(nested, hart, &mut running, &mut outcome);
+            self.make_turn(nested, hart, &mut outcome);
         }
     }
 
-    // Makes one step of a hart, as `turn` does. The path of the machine that the hart ran and the step's outcome are told in
-    // `running` and `outcome`, which may hold any before; where there are no watches, the path is left as it is.
+    // Makes one step of a hart, as `turn` does. The step's outcome is told in `outcome`, which may hold any before.
     #[inline(always)]
-    fn make_turn<N: Nested>(
-        &mut self,
-        nested: &mut N,
-        hart: u32,
-        running: &mut Path,
-        outcome: &mut Outcome,
-    )
+    fn make_turn<N: Nested>(&mut self, nested: &mut N, hart: u32, outcome: &mut Outcome)
         requires hart { hart < length (N.state nested.old).harts }
         requires calls { self.old.calls < 2 ^ 62 }
         ensures moves { record { kind = outcome.new.kind; state = N.state nested.new } ≡ moved_of (N.state nested.old) hart }
@@ -195,34 +192,11 @@ impl Play {
         ensures guests { AreBareRunsWith self.old (N.state nested.old) (StepOf hart ∷ []) }
         ensures routed { IsRoutedIn (N.state nested.old) hart (fault_in outcome.new.kind) }
     {
-        self.find_running(nested, hart, running);
+        self.running.find(nested, hart, &self.watched);
         nested.step_into(hart, outcome);
-        self.tell_step(nested, hart, running, outcome);
-    }
-
-    // The path of the machine that a hart runs, which watches are told. It is made anew only where the hart runs another machine
-    // than that of the path that is there; where there are no watches, it isn't looked for.
-    #[inline(always)]
-    fn find_running<N: Nested>(&self, nested: &mut N, hart: u32, running: &mut Path)
-        requires { hart < length (N.state nested.old).harts }
-        ensures path { self.now.watching ≢ [] → running.new ≡ running_of (N.state nested.old) hart }
-        ensures same { N.state nested.new ≡ N.state nested.old }
-    {
-        if !self.watched.is_empty() && !nested.runs(hart, running) {
-            *running = nested.running(hart);
-        }
-    }
-
-    // Tells a step of a hart, which ran the machine on the path `running` before it.
-    #[inline(always)]
-    fn tell_step<N: Nested>(&mut self, nested: &N, hart: u32, running: &Path, outcome: &Outcome)
-        requires calls { self.old.calls < 2 ^ 62 }
-        ensures { self.new
-            ≡ played_after (Stepped hart running.now outcome.now.kind outcome.now.changed) (N.state nested.now) self.old }
-    {
         self.calls += 1;
         self.counts.tell(hart, outcome.kind);
-        step_all(&mut self.watched, nested, hart, running, outcome);
+        step_all(&mut self.watched, nested, hart, &self.running, outcome);
     }
 
     // Tells a change of a hart's lines.
@@ -235,21 +209,22 @@ impl Play {
     }
 }
 
-// Tells each watch a step of a hart, which ran the machine on the path `running` before it.
+// Tells each watch a step of a hart, which ran the machine on the path of `running` before it.
 #[inline(always)]
 fn step_all<N: Nested>(
     watched: &mut [Watched],
     nested: &N,
     hart: u32,
-    running: &Path,
+    running: &Running,
     outcome: &Outcome,
 )
     requires room { TellsWithin (2 ^ 62 - 1) watched.old }
+    requires inside { running.now.inside.items ≡ inside_of running.now.path watched.old }
     ensures { watched.new
-        ≡ all_after (Stepped hart running.now outcome.now.kind outcome.now.changed) (N.state nested.now) watched.old }
+        ≡ all_after (Stepped hart running.now.path outcome.now.kind outcome.now.changed) (N.state nested.now) watched.old }
 {
-    for one in watched.iter_mut() {
-        one.tell_step(nested, hart, running, outcome);
+    for (i, one) in watched.iter_mut().enumerate() {
+        one.tell_step(nested, hart, &running.path, running.inside[i], outcome);
     }
 }
 

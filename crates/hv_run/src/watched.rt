@@ -88,30 +88,35 @@ impl Watched {
         status_of(nested, self.hart, self.block)
     }
 
-    // Whether a step of a hart, which ran the machine on the path `running` before it, counts for the watch.
+    // Whether a step of a hart counts for the watch. The hart ran the machine on the path `running` before it; `inside` says
+    // whether the watch's path begins that.
     #[inline(always)]
-    fn counts(&self, hart: u32, running: &Path, kind: StepKind) -> bool
+    fn counts(&self, hart: u32, running: &Path, inside: bool, kind: StepKind) -> bool
+        requires { inside ≡ begins self.now.so_far.path running.now }
         ensures { result ≡ counts_step self.now.so_far hart running.now kind }
     {
-        hart == self.hart && begins(&self.path, running) && !is_outside(self.path.len(), kind)
+        hart == self.hart && inside && !is_outside(self.path.len(), kind)
     }
 
-    /// Tells a step of a hart, which ran the machine on the path `running` before it.
+    /// Tells a step of a hart, which ran the machine on the path `running` before it; `inside` says whether the watch's path
+    /// begins that.
     #[inline(always)]
     pub(crate) fn tell_step<N: Nested>(
         &mut self,
         nested: &N,
         hart: u32,
         running: &Path,
+        inside: bool,
         outcome: &Outcome,
     )
         requires count { self.old.so_far.count < 2 ^ 62 }
         requires total { self.old.so_far.line_total < 2 ^ 62 }
+        requires inside { inside ≡ begins self.old.so_far.path running.now }
         ensures { self.new
             ≡ watched_after (Stepped hart running.now outcome.now.kind outcome.now.changed) (N.state nested.now) self.old }
     {
         let status = self.status_now(nested);
-        if self.counts(hart, running, outcome.kind) {
+        if self.counts(hart, running, inside, outcome.kind) {
             self.count += 1;
             self.status = status;
             return;
@@ -176,15 +181,6 @@ fn keep_change(lines: &mut Vec<LineRow>, row: LineRow)
     if lines.len() < KEPT {
         let _ = lines.push(row);
     }
-}
-
-// Whether a path is a prefix of another. That of the bare machine is one of each.
-#[inline(always)]
-#[tactic(auto, using(crate::proofs::Begins::none_begins))]
-fn begins(path: &Path, other: &Path) -> bool
-    ensures { result ≡ begins path.now other.now }
-{
-    path.len() == 0 || path.begins(other)
 }
 
 // Whether one of the two holds.

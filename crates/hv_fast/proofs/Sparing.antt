@@ -1,14 +1,16 @@
--- A ride writes no word of a page on which something rests.
-use Rattle.std.proofs.Common.{◌≡◌, ◌≢◌, ℕ, zero, suc, ◌+◌, ◌*◌, ◌/◌, ◌<◌, Bool, true, false, ◌||◌, List, [], ◌∷◌, Ok, Err, length, get_or, refl, ap, ◌∙◌, sym, arith}
-use Rattle.std.specs.Prelude.{◌==◌, Result, is_err}
+-- The instruction of a ride changes no word of a page on which something rests.
+use Rattle.std.proofs.Common.{◌≡◌, ◌≢◌, ℕ, zero, suc, ◌+◌, ◌*◌, ◌/◌, ◌<◌, Bool, true, false, ◌||◌, List, [], ◌∷◌, length, get_or, refl, ap, ◌∙◌, sym, subst, arith}
+use Rattle.std.specs.Prelude.{◌==◌}
 use Rattle.std.specs.List.{AllByRecursion, list_any}
 use Rattle.std.proofs.lemmas.Bool.{eq-eqb, ne_eqb, or_parts}
 use Rattle.hv_word.specs.Storage.{page_count}
 use Rattle.hv_word.specs.Words.{has}
 use Rattle.hv_cpu.specs.Regs.{FitsHart, Regs}
-use Rattle.hv_store.specs.declared.access.Refusal.{Refusal}
-use Rattle.hv_block.specs.Block.{pages_at, put_regs}
-use Rattle.hv_exec.specs.Act.{Acted, Done, act_of, acted}
+use Rattle.hv_block.specs.Block.{pages_at, put_regs, regs_at}
+use Rattle.hv_block.proofs.Blocks.{regs_alike}
+use Rattle.hv_exec.specs.Act.{Done, act_of}
+use Rattle.hv_exec.specs.Touched.{Touches}
+use Rattle.hv_exec.specs.declared.touched.Touched.{Touched}
 use Rattle.hv_map.specs.Chain.{map_along}
 use Rattle.hv_map.specs.Held.{SamePage, SamePages}
 use Rattle.hv_map.specs.Item.{Item}
@@ -84,17 +86,36 @@ module _ (S T : List ℕ) (notes : List Note) (origin : undone T notes ≡ S) (P
           entries_ridden es (λ h rests. all h (or_right (rests_on h e.1) (any_rests_on h es) rests)) parts.1,
         )
 
--- an instruction that isn't refused is done
-done_of : (A : Acted) (T : List ℕ) (q : Regs) (e : Result (Unit {0}) Refusal) → is_err e ≡ false → acted e T q ≡ A → A ≡ Done T q
-done_of A T q (Ok u) is acts = sym acts
-done_of A T q (Err e) is acts = absurd (let f : true ≡ false = is in cc)
+-- the registers in a block that is marked stay where no noted word lies in a page on which something rests
+regs_stay : (S T : List ℕ) (m : Marked) (es : List Entry) (notes : List Note) (g : ℕ)
+    → undone T notes ≡ S
+    → has_noted_mark m es notes ≡ false
+    → has g m.blocks ≡ true
+    → regs_at T g ≡ regs_at S g
+regs_stay S T m es notes g origin none marked =
+    sym (
+    regs_alike S T g g
+    (same_page S T notes origin (λ h. has_mark m h || any_rests_on h es) none g
+    (or_left (has_mark m g) (any_rests_on g es) (or_right (has g m.tables) (has g m.blocks) marked)))
+    )
+
+-- so what an instruction touched of the registers at hand it touched of those in the block
+pub touches_block : (S T : List ℕ) (m : Marked) (es : List Entry) (notes : List Note) (g : ℕ) (r q : Regs) (touched : Touched)
+    → undone T notes ≡ S
+    → has_noted_mark m es notes ≡ false
+    → has g m.blocks ≡ true
+    → regs_at S g ≡ r
+    → Touches touched r q
+    → Touches touched (regs_at T g) q
+touches_block S T m es notes g r q touched origin none marked regs touches =
+    subst (λ (x : Regs). Touches touched x q) (sym (regs_stay S T m es notes g origin none marked ∙ regs)) touches
 
 -- the next is a page of the machine
 pub next_below : (n l p : ℕ) → (n ≢ 0 → n < l) → l ≡ p → 0 < p → n < p
 next_below zero l p below same some = omega (arith, some)
 next_below (suc n) l p below same some = let lt : suc n < l = below (λ e. omega (arith, e)) in omega (arith, lt, same)
 
-pub has_ridden : (S T U : List ℕ) (m : Marked) (es : List Entry) (items : List Item) (notes : List Note) (g : ℕ) (r q : Regs) (e : Result (Unit {0}) Refusal)
+pub has_ridden : (S T U : List ℕ) (m : Marked) (es : List Entry) (items : List Item) (notes : List Note) (g : ℕ) (r q : Regs)
     → undone T notes ≡ S
     → length T ≡ length S
     → has_noted_mark m es notes ≡ false
@@ -104,14 +125,13 @@ pub has_ridden : (S T U : List ℕ) (m : Marked) (es : List Entry) (items : List
     → FitsHart q
     → q.next < pages_at S g
     → U ≡ put_regs T g q
-    → is_err e ≡ false
-    → acted e T q ≡ act_of S (map_along S items) 0 r
+    → act_of S (map_along S items) 0 r ≡ Done T q
     → HasRidden S U m es items g r q
-has_ridden S T U m es items notes g r q e origin len none apart spared inside fits next put ok acts =
+has_ridden S T U m es items notes g r q origin len none apart spared inside fits next put acts =
     let P : ℕ → Bool = λ h. has_mark m h || any_rests_on h es in
     record {
       after = T;
-      acts = done_of (act_of S (map_along S items) 0 r) T q e ok acts;
+      acts = acts;
       marked =
           ridden_by S T notes origin P none U g q (sym len) inside fits next put m
           (λ h is. or_left (has_mark m h) (any_rests_on h es) is) apart;

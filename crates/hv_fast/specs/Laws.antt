@@ -15,7 +15,8 @@ use Rattle.hv_fast.specs.Marked.{BlocksIn, IsMore, Marked, listed}
 use Rattle.hv_fast.specs.Rides.{IsRidden, Quiet, QuietBlocks}
 
 -- One step of a hart is one instruction of the machine at the end of its path, where no interrupt can be taken on the
--- way and the instruction writes no word of a block on the path: then its registers are put into its block, and nothing
+-- way or there, the instruction changes no word of a page that is marked, as are the pages on which the path rests, and
+-- the block there lies in no page that is marked as a table's: then its registers are put into its block, and nothing
 -- else changes.
 abbrev pub RideLaw : Type 0
 RideLaw =

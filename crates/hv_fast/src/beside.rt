@@ -18,7 +18,7 @@ use crate::following::{entered, follow};
 use crate::marks::Marks;
 use crate::memo::Memo;
 use crate::pin::Pin;
-use crate::riding::{Asked, Miss, Ridden, ride};
+use crate::riding::{Miss, Ridden, ride};
 use crate::translations::hold;
 use hv_block::read_block;
 use hv_cache::MapCache;
@@ -154,15 +154,15 @@ impl Beside {
         ensures len { length store.new ≡ length store.old }
         ensures count { length self.new.pins.items ≡ length self.old.pins.items }
     {
-        let mut asked = Asked::nothing();
-        let rode = self.one(store, hart, changed, &mut asked);
-        if let Some(miss) = asked.missed {
+        let mut missed = None;
+        let rode = self.one(store, hart, changed, &mut missed);
+        if let Some(miss) = missed {
             self.fill(store, hart, miss);
         }
         rode
     }
 
-    // The same, with what the instruction asked for.
+    // The same, with the page that the instruction missed last, if any.
     #[inline(always)]
     #[tactic(auto, using(crate::proofs::Riders::riders))]
     fn one(
@@ -170,7 +170,7 @@ impl Beside {
         store: &mut Store,
         hart: u32,
         changed: &mut Changed,
-        asked: &mut Asked,
+        missed: &mut Option<Miss>,
     ) -> bool
         requires hart { hart < length self.old.pins.items }
         requires rider { self.old.rider ≡ Some hart }
@@ -197,7 +197,7 @@ impl Beside {
             &self.marks,
             &self.cache,
             &mut self.inner,
-            asked,
+            missed,
         ) {
             Ridden::Made => {}
             Ridden::Refused => return false,

@@ -2,8 +2,9 @@
 
 ghost use Rattle.hv_fast.specs.Laws.{RideLaw, PinRidesLaw, QuietRidesLaw, HeldRidesLaw, StillSaysLaw, PinMoreLaw, HeldMoreLaw, BlocksMoreLaw, PinEndsLaw};
 
-/// One step of a hart is one instruction of the machine at the end of its path, where no interrupt can be taken on the way and
-/// the instruction writes no word of a block on the path.
+/// One step of a hart is one instruction of the machine at the end of its path, where no interrupt can be taken on the way or
+/// there, the instruction changes no word of a page on which the path rests, and the block there lies in no page of a table on
+/// which it rests.
 pub fn step_is_a_ride()
     ensures { RideLaw }
 {}

@@ -1,11 +1,12 @@
 //! One instruction of the machine at the end of a pinned path, by translations at hand.
 
-ghost use Rattle.std.specs.Prelude.{◌≡◌, ◌≢◌, ◌<◌, ◌≤◌, [], true, OnErr, Some, length};
+ghost use Rattle.std.specs.Prelude.{◌≡◌, ◌≢◌, ◌<◌, ◌≤◌, [], true, IfOk, OnErr, Some, length};
 ghost use Rattle.hv_word.specs.Words.{IsLane, has, lane_with};
 ghost use Rattle.hv_word.specs.Storage.{page_count, with_word, word_at};
 ghost use Rattle.hv_cpu.specs.Regs.{FitsHart};
 ghost use Rattle.hv_block.specs.Block.{pages_at, regs_at};
 ghost use Rattle.hv_exec.specs.Act.{act_of, acted};
+ghost use Rattle.hv_exec.specs.Touched.{Touches};
 ghost use Rattle.hv_map.specs.Chain.{map_along};
 ghost use Rattle.hv_nest.specs.Notes.{undone, is_exact};
 ghost use Rattle.hv_nest.specs.Noted.{AreNoted, NothingDone};
@@ -17,9 +18,9 @@ use crate::memo::Memo;
 use hv_block::block_word;
 use hv_cache::MapCache;
 use hv_cpu::Cpu;
-use hv_exec::act;
+use hv_exec::{Touched, act_telling};
 use hv_map::{Chain, View, page_slot};
-use hv_nest::{Notes, put_cpu, put_fault};
+use hv_nest::{Notes, put_fault, put_touched};
 use hv_store::{Access, Refusal, Space, Store, Way};
 use hv_word::{Lane, lane_put};
 
@@ -28,38 +29,6 @@ use hv_word::{Lane, lane_put};
 pub(crate) struct Miss {
     pub(crate) page: u32,
     pub(crate) access: Access,
-}
-
-/// What an instruction asked for that is of use after it: the page that it missed last, if any, and the word that it fetched.
-#[derive(Clone, Copy)]
-pub(crate) struct Asked {
-    pub(crate) missed: Option<Miss>,
-    fetched: u32,
-}
-
-impl Asked {
-    /// Nothing was asked for.
-    #[inline(always)]
-    pub(crate) fn nothing() -> Asked {
-        Asked {
-            missed: None,
-            fetched: 0,
-        }
-    }
-
-    // Keeps a word that was read, if it was fetched.
-    #[inline(always)]
-    fn keep(&mut self, word: u32, access: Access) {
-        if let Access::Fetch = access {
-            self.fetched = word;
-        }
-    }
-
-    // The register that the instruction changed, if it changed one of x1 to x31: nearly every one has its number there.
-    #[inline(always)]
-    fn register(&self) -> u32 {
-        (self.fetched >> 7) & 31
-    }
 }
 
 /// What came of riding: one instruction was made; or it can't be made so, and nothing changed; or something rests on a word that
@@ -79,7 +48,7 @@ pub(crate) struct Riding<'a> {
     pub(crate) chain: &'a Chain,
     pub(crate) memo: &'a Memo,
     pub(crate) notes: &'a mut Notes,
-    pub(crate) asked: &'a mut Asked,
+    pub(crate) missed: &'a mut Option<Miss>,
     ghost exact: { is_exact store.now notes.now ≡ true },
     ghost right: { AreOpen (undone store.now notes.now) chain.now memo.now },
 }
@@ -113,11 +82,9 @@ impl Space for Riding<'_> {
     fn read(&mut self, page: u32, word: u32, access: Access) -> Result<u32, Refusal> {
         let _pages = self.chain.pages(self.store);
         if let Some(host) = self.memo.get(page, access) {
-            let value = block_word(self.store, host, word);
-            self.asked.keep(value, access);
-            return Ok(value);
+            return Ok(block_word(self.store, host, word));
         }
-        self.asked.missed = Some(Miss { page, access });
+        *self.missed = Some(Miss { page, access });
         View {
             store: self.store,
             chain: self.chain,
@@ -132,7 +99,7 @@ impl Space for Riding<'_> {
             put_lane(self.store, self.notes, host, word, lane, value);
             return Ok(());
         }
-        self.asked.missed = Some(Miss {
+        *self.missed = Some(Miss {
             page,
             access: Access::Write,
         });
@@ -189,7 +156,7 @@ pub(crate) fn ride(
     marks: &Marks,
     cache: &MapCache,
     cpu: &mut Cpu,
-    asked: &mut Asked,
+    missed: &mut Option<Miss>,
 ) -> Ridden
     requires fresh { notes.old ≡ [] }
     requires memo { Opens store.old chain.now memo.now }
@@ -208,19 +175,20 @@ pub(crate) fn ride(
     if marks.is_table(block) || cache.table_watched(block) {
         return Ridden::Refused;
     }
-    if act_along(store, notes, chain, memo, cpu, asked).is_err() {
+    let Ok(touched) = act_along(store, notes, chain, memo, cpu, missed) else {
         return Ridden::Refused;
-    }
+    };
     if any_marked(marks, cache, notes) {
         notes.undo(store);
         return Ridden::Undone;
     }
     fits(cpu);
-    put_cpu(store, notes, block, cpu, asked.register());
+    put_touched(store, notes, block, cpu, touched);
     Ridden::Made
 }
 
-// One instruction of the last machine of a chain, by translations at hand. Where it is refused nothing changed.
+// One instruction of the last machine of a chain, by translations at hand, and what it may have changed of the registers. Where
+// it is refused nothing changed.
 #[inline(always)]
 #[tactic(auto, using(hv_nest::proofs::Counts::counts))]
 fn act_along(
@@ -229,12 +197,13 @@ fn act_along(
     chain: &Chain,
     memo: &Memo,
     cpu: &mut Cpu,
-    asked: &mut Asked,
-) -> Result<(), Refusal>
+    missed: &mut Option<Miss>,
+) -> Result<Touched, Refusal>
     requires fresh { notes.old ≡ [] }
     requires memo { Opens store.old chain.now memo.now }
     requires next { cpu.old.next ≡ 0 }
     ensures acts { acted result store.new cpu.new ≡ act_of store.old (map_along store.old chain.now) 0 cpu.old }
+    ensures touched { IfOk result (λ touched. Touches touched cpu.old cpu.new) }
     ensures next { cpu.new.next ≢ 0 → cpu.new.next < length (map_along store.old chain.now) }
     ensures err { OnErr result (NothingDone store.old store.new cpu.old cpu.new notes.new) }
     ensures noted { AreNoted store.old store.new cpu.old cpu.new notes.new }
@@ -245,9 +214,9 @@ fn act_along(
         chain,
         memo,
         notes,
-        asked,
+        missed,
     };
-    act(cpu, 0, &mut riding)
+    act_telling(cpu, 0, &mut riding)
 }
 
 // The registers are such as a hart can have.

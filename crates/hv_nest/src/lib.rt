@@ -19,7 +19,7 @@ pub use harts::Harts;
 pub use line_row::LineRow;
 pub use nested::Nested;
 pub use notes::{Note, Notes};
-pub use noting::{put_cpu, put_fault, put_touched};
+pub use noting::{put_cpu, put_fault};
 pub use outcome::{Outcome, StepKind};
 pub use plain::Plain;
 pub use running::path_of;

@@ -6,7 +6,6 @@ ghost use Rattle.hv_word.specs.Storage.{page_count};
 ghost use Rattle.hv_cpu.specs.Regs.{file_of};
 ghost use Rattle.hv_block.specs.Block.{regs_at, put_regs, with_fault};
 ghost use Rattle.hv_exec.specs.Changes.{differing, changed_regs};
-ghost use Rattle.hv_exec.specs.Touched.{Touches};
 ghost use Rattle.hv_nest.specs.Notes.{undone, is_exact};
 ghost use Rattle.hv_nest.specs.Noted.{control_of};
 ghost use Rattle.hv_nest.specs.Rows.{rows_limit};
@@ -14,7 +13,6 @@ ghost use Rattle.hv_nest.specs.Rows.{rows_limit};
 use crate::notes::Notes;
 use hv_block::block_word;
 use hv_cpu::Cpu;
-use hv_exec::Touched;
 use hv_map::{Chain, View, page_slot};
 use hv_store::{Access, Refusal, Space, Store, Way};
 use hv_word::{Lane, lane_put};
@@ -156,21 +154,6 @@ pub fn put_cpu(store: &mut Store, notes: &mut Notes, page: u32, cpu: &Cpu)
     put_row(store, notes, at + 1, file(cpu));
     put_row(store, notes, at + 32, &control_words(cpu));
     notes.put(store, at + 64, next_word(cpu));
-}
-
-/// Puts the registers into the control block in bare page `page`, where no words changed but those that are told, and notes what
-/// changes.
-#[inline(always)]
-pub fn put_touched(store: &mut Store, notes: &mut Notes, page: u32, cpu: &Cpu, touched: Touched)
-    requires page { page < page_count store.old }
-    requires room { length notes.old + changed_regs (regs_at (undone store.old notes.old) page) cpu.now ≤ rows_limit }
-    requires touches { Touches touched (regs_at store.old page) cpu.now }
-    ensures put { store.new ≡ put_regs store.old page cpu.now }
-    ensures origin { undone store.new notes.new ≡ undone store.old notes.old }
-    ensures count { length notes.new ≤ length notes.old + changed_regs (regs_at (undone store.old notes.old) page) cpu.now }
-{
-    let _ = touched;
-    put_cpu(store, notes, page, cpu, 0);
 }
 
 // x1 to x31.

@@ -9,7 +9,7 @@ use Rattle.hv_job.specs.declared.limited.Limited.{Limited}
 use Rattle.hv_job.specs.declared.limited.Limited.TheVariants as limited
 use Rattle.hv_job.specs.declared.limited.Share.{Share}
 
--- how much of it a job can have
+-- how much of it there can be in a job
 abbrev pub limit_of : Limited → ℕ
 limit_of limited.Machines = job_machines
 limit_of limited.Watches = job_watches
@@ -28,7 +28,7 @@ taken_by (directive.Sample name image) =
     Some (record { of = limited.ImageBytes; amount = 4 * length image.words })
 taken_by _ = None
 
--- whether they are the same
+-- whether the two are the same
 abbrev pub is_same : Limited → Limited → Bool
 is_same limited.Machines limited.Machines = true
 is_same limited.Watches limited.Watches = true
@@ -36,7 +36,7 @@ is_same limited.Dumps limited.Dumps = true
 is_same limited.ImageBytes limited.ImageBytes = true
 is_same _ _ = false
 
--- how much of it is taken
+-- how much of it is in what is taken
 abbrev pub part_of : Limited → Option Share → ℕ
 part_of of None = 0
 part_of of (Some share) = if is_same of share.of then share.amount else 0

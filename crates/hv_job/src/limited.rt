@@ -21,7 +21,7 @@ pub enum Limited {
 }
 
 impl Limited {
-    /// How much of it a job can have.
+    /// How much of it there can be in a job.
     pub fn limit(self) -> u32
         ensures { result ≡ limit_of self }
     {

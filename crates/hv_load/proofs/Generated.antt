@@ -1,5 +1,5 @@
 -- The parts of the job of a number, one more after another, and what holds of the whole.
-use Rattle.std.proofs.Common.{◌≡◌, ℕ, zero, suc, ◌+◌, ◌*◌, ◌/◌, ◌%◌, ◌<◌, Bool, true, false, cond, eqb, lit<, lit≤, List, [], ◌∷◌, ◌++◌, length, map, replicate, sum_by, All, filter_map, refl, sym, ap, subst, ◌∙◌, add-one, zero-add, arith, inl, length-append}
+use Rattle.std.proofs.Common.{◌≡◌, ℕ, zero, suc, ◌+◌, ◌*◌, ◌/◌, ◌%◌, ◌<◌, ◌≤◌, Bool, true, false, cond, eqb, lit<, lit≤, List, [], ◌∷◌, ◌++◌, length, map, replicate, sum_by, All, filter_map, refl, sym, ap, subst, ◌∙◌, add-one, zero-add, arith, inl, length-append}
 use Rattle.std.specs.List.{range_with_len}
 use Rattle.std.proofs.lemmas.List.{length-replicate, append-nil}
 use Rattle.std.proofs.lemmas.List.Elements.{All-append, All-cons, All-map, All-nil, filter_map-append}

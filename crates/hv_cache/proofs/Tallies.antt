@@ -10,6 +10,8 @@ use Rattle.lru.specs.LruCache.{IsValid, displaced, lru_cache, promoted, put_entr
 use Rattle.lru.proofs.CallerLemmas.{Contains-lookup_entry}
 use Rattle.hv_cache.specs.Kept.{Kept}
 use Rattle.hv_cache.specs.Holding.{Entry, Holding, Key, entries_limit, same, with_entry}
+use Rattle.hv_limits.specs.Limits.{depth_limit}
+use Rattle.hv_map.specs.Gathered.{listed_limit}
 use Rattle.hv_cache.specs.Counting.{Adds, Covers, HasRoom, IsShort, IsTally, Tallied, pages_named, tables_named, total}
 use Rattle.hv_cache.proofs.Staying.{all_found, all_removed, all_with_entry, same_is}
 use Rattle.hv_cache.proofs.Totals.{entry_part, total-remove, total-take}
@@ -53,11 +55,11 @@ unfolding total
 total_bound f most [] bound all = omega arith
 total_bound f most (e ∷ es) bound all = let rest = total_bound f most es bound all.1 in let here = bound e.1 all.0 in omega (arith, rest, here)
 
-pages_bound : (g : ℕ) (k : Kept) → IsShort k → pages_named g k ≤ 263
+pages_bound : (g : ℕ) (k : Kept) → IsShort k → pages_named g k ≤ (depth_limit + listed_limit)
 unfolding pages_named
 pages_bound g k h = omega (arith, h, count_by-le-length (λ x. g == x) k.blocks, count_by-le-length (λ x. g == x) k.tables)
 
-tables_bound : (g : ℕ) (k : Kept) → IsShort k → tables_named g k ≤ 263
+tables_bound : (g : ℕ) (k : Kept) → IsShort k → tables_named g k ≤ (depth_limit + listed_limit)
 unfolding tables_named
 tables_bound g k h = omega (arith, h, count_by-le-length (λ x. g == x) k.tables)
 
@@ -126,12 +128,12 @@ tally_same test c t h is = record {
 pub has_room : (c : Holding) (t : Tallied) (k : Kept) → IsValid same c → IsTally c t → IsShort k → HasRoom t k
 has_room c t k valid is short = record {
   pages = λ g.
-      let sum = total_bound (pages_named g) 263 c.entries (pages_bound g) is.short in
+      let sum = total_bound (pages_named g) (depth_limit + listed_limit) c.entries (pages_bound g) is.short in
       let was = is.pages g in
       let here = pages_bound g k short in
       omega (arith, sum, was, here, valid.1, is.few);
   tables = λ g.
-      let sum = total_bound (tables_named g) 263 c.entries (tables_bound g) is.short in
+      let sum = total_bound (tables_named g) (depth_limit + listed_limit) c.entries (tables_bound g) is.short in
       let was = is.tables g in
       let here = tables_bound g k short in
       omega (arith, sum, was, here, valid.1, is.few);

@@ -2,7 +2,8 @@
  *
  *     cc -shared -fPIC -O2 -fno-builtin -o shim.so .ci/try-faults.c && LD_PRELOAD=./shim.so FAULTS_MEMORY=17 PROGRAM ...
  *
- *   FAULTS_MEMORY=N  FAULTS_READ=N  FAULTS_WRITE=N    number N, counted from 1, fails: no memory, or EIO; N+: and so do all behind it
+ *   FAULTS_MEMORY=N  FAULTS_READ=N  FAULTS_WRITE=N    number N, counted from 1, fails: no memory, or EIO; N-M: each from N to M;
+ *                                                     N+: this one and all behind it
  *   FAULTS_READ_SHORT=N      FAULTS_WRITE_SHORT=N     number N moves one byte at most
  *   FAULTS_READ_MOST=BYTES   FAULTS_WRITE_MOST=BYTES  each moves so many bytes at most
  *   FAULTS_COUNTS=FILE       at exit the file has a line for each of memory, read and write: how many there were, how many of them
@@ -13,6 +14,7 @@
  * descriptor 1. For the GNU C library, and one thread. */
 #define _GNU_SOURCE
 #include <errno.h>
+#include <limits.h>
 #include <link.h>
 #include <stdint.h>
 #include <stdio.h>
@@ -27,15 +29,15 @@ extern void *__libc_memalign(size_t align, size_t size);
 
 struct kind {
     const char *name;
-    unsigned long fails, short_at, most; /* as the environment says; 0 where it says nothing */
-    int and_behind;
+    unsigned long fails, fails_to, short_at, most; /* as the environment says; 0 where it says nothing */
     unsigned long made, failed, cut, bytes;
 };
 
 static struct kind memory = {.name = "MEMORY"}, reads = {.name = "READ"}, writes = {.name = "WRITE"};
 static uintptr_t code_start = UINTPTR_MAX, code_end;
 
-static unsigned long said(const char *kind, const char *rest, int *and_behind) {
+/* The number that a variable says, and how far it goes on from there. */
+static unsigned long said(const char *kind, const char *rest, unsigned long *to) {
     char name[64];
     snprintf(name, sizeof name, "FAULTS_%s%s", kind, rest);
     const char *value = getenv(name);
@@ -43,8 +45,8 @@ static unsigned long said(const char *kind, const char *rest, int *and_behind) {
         return 0;
     char *end;
     unsigned long number = strtoul(value, &end, 10);
-    if (and_behind != NULL)
-        *and_behind = *end == '+';
+    if (to != NULL)
+        *to = *end == '+' ? ULONG_MAX : *end == '-' ? strtoul(end + 1, NULL, 10) : number;
     return number;
 }
 
@@ -66,7 +68,7 @@ static int first_object(struct dl_phdr_info *object, size_t size, void *none) {
 __attribute__((constructor)) static void begin(void) {
     struct kind *kinds[] = {&memory, &reads, &writes};
     for (int i = 0; i < 3; i++) {
-        kinds[i]->fails = said(kinds[i]->name, "", &kinds[i]->and_behind);
+        kinds[i]->fails = said(kinds[i]->name, "", &kinds[i]->fails_to);
         kinds[i]->short_at = said(kinds[i]->name, "_SHORT", NULL);
         kinds[i]->most = said(kinds[i]->name, "_MOST", NULL);
     }
@@ -87,7 +89,7 @@ __attribute__((destructor)) static void end(void) {
 /* Counts one more of a kind, and tells whether it is to fail. */
 static int fails(struct kind *kind) {
     kind->made++;
-    if (kind->fails == 0 || kind->made < kind->fails || (kind->made > kind->fails && !kind->and_behind))
+    if (kind->fails == 0 || kind->made < kind->fails || kind->made > kind->fails_to)
         return 0;
     kind->failed++;
     return 1;

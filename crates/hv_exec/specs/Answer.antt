@@ -1,5 +1,5 @@
 -- What one instruction asks for, before any address is translated.
-use Rattle.std.specs.Prelude.{◌≡◌, ℕ, ◌%◌, ◌<◌, ◌==◌, Bool, if◌then◌else◌}
+use Rattle.std.specs.Prelude.{◌≡◌, ℕ, ◌%◌, ◌<◌, ◌==◌, Bool, if◌then◌else◌, Option, Some, None}
 use Rattle.hv_cpu.specs.Regs.{Regs, with_reg}
 use Rattle.hv_exec.specs.Arithmetic.{sum_of}
 use Rattle.hv_exec.specs.declared.answer.Width.{Width}
@@ -32,6 +32,11 @@ given r rd v = advanced (with_reg r rd v)
 -- (Privileged Architecture, section 3.1.16)
 abbrev pub illegal_of : ℕ → Answer
 illegal_of w = Trap 2 w
+
+-- an instruction with the word w that is illegal where it tells nothing, and else done with the registers r
+abbrev pub done_unless_illegal : Option ℕ → ℕ → Regs → Answer
+done_unless_illegal None w r = illegal_of w
+done_unless_illegal (Some _) w r = Next r
 
 -- an instruction that only goes on, where it is allowed
 abbrev pub passed : Bool → ℕ → Regs → Answer

@@ -1,6 +1,7 @@
 -- What each instruction does (Unprivileged ISA, chapters 2, 3 and 9; Privileged Architecture, sections 3.1.6, 3.3
 -- and 4.2).
 use Rattle.std.specs.Prelude.{ℕ, ◌==◌, not, nat_lt, true, false, bit_and, bit_or, bit_xor}
+use Rattle.hv_word.specs.Words.{field_of}
 use Rattle.hv_cpu.specs.Regs.{Regs, reg}
 use Rattle.hv_isa.specs.declared.Instr.{Instr}
 use Rattle.hv_isa.specs.declared.Op.{Op}
@@ -11,12 +12,17 @@ use Rattle.hv_isa.specs.declared.Op.TheVariants.{Ebreak, Csrrw, Csrrs, Csrrc, Cs
 use Rattle.hv_isa.specs.declared.Op.TheVariants.{SfenceVma, Vmenter}
 use Rattle.hv_csr.specs.Traps.{mret_of, sret_of}
 use Rattle.hv_exec.specs.declared.answer.Width.TheVariants.{Byte, Half, Word}
+use Rattle.hv_exec.specs.declared.rows.Fetched.{Fetched}
 use Rattle.hv_exec.specs.declared.system.Update.TheVariants.{Replace, Set, Clear}
 use Rattle.hv_exec.specs.Arithmetic.{sum_of, difference_of, is_less_signed, flag_of, shift_left, shift_right}
 use Rattle.hv_exec.specs.Arithmetic.{shift_right_signed, even_of}
 use Rattle.hv_exec.specs.Answer.{Answer, Next, Trap, advanced, given, passed, jumped, branched}
 use Rattle.hv_exec.specs.Memory.{loading, storing}
 use Rattle.hv_exec.specs.System.{csr_row, returned, may_wait, may_fence, called, entering}
+
+-- an instruction with the word w that was fetched, of a hart with the registers r
+abbrev pub fetched_of : ℕ → Regs → Fetched
+fetched_of w r = record { word = w; pc = r.pc; a = reg r (field_of w 15 5); b = reg r (field_of w 20 5) }
 
 -- rd gets v
 abbrev pub gives : Instr → Regs → ℕ → Answer

@@ -1,24 +1,23 @@
 //! One instruction of a machine over its storage.
 
 ghost use Rattle.std.specs.Prelude.{◌≡◌, ◌≢◌, ◌<◌, false, OnErr, IfErr, IfOk, length};
-ghost use Rattle.hv_isa.specs.Table.{NamesRegs};
+ghost use Rattle.hv_isa.specs.Table.{decode_of};
 ghost use Rattle.hv_csr.specs.Traps.{take_trap_of};
 ghost use Rattle.hv_store.specs.Space.{Keeps};
 ghost use Rattle.hv_sv32.specs.Walk.{walk_of};
-ghost use Rattle.hv_exec.specs.Do.{do_of};
-ghost use Rattle.hv_exec.specs.Act.{act_of, acted, carried_out, load_at, store_at, enter_at};
+ghost use Rattle.hv_exec.specs.Act.{act_of, acted, decoded, load_at, store_at, enter_at};
 ghost use Rattle.hv_exec.specs.Kept.{ChangedNothing};
 ghost use Rattle.hv_exec.specs.Touched.{Touches};
 
-use crate::answer::{Task, Width, advance, put};
+use crate::answer::{Task, Width, advance, illegal, put};
 use crate::memory::{extend, lane};
-use crate::rows::perform;
+use crate::rows::{Fetched, perform};
 use crate::touched::Touched;
 use hv_cpu::{Cpu, Mode};
 use hv_csr::take_trap;
-use hv_isa::{Instr, decode};
+use hv_isa::operation;
 use hv_store::{Access, Refusal, Space};
-use hv_sv32::{Stop, translate};
+use hv_sv32::{Stop, direct, translate};
 use hv_word::lane_get;
 
 /// Executes one instruction of a hart, or takes its trap. An error is the refusal of a word that was asked for; then
@@ -52,41 +51,40 @@ pub fn act_telling<S: Space>(cpu: &mut Cpu, hart: u32, space: &mut S) -> Result<
     ensures keeps { Keeps S.Space space.old space.new }
     ensures err { OnErr result (ChangedNothing S.Space space.old space.new cpu.old cpu.new) }
 {
-    let at = match translate(cpu, space, cpu.pc, Access::Fetch) {
-        Ok(at) => at,
-        Err(Stop::Trap { cause, tval }) => return Ok(trap(cpu, cause, tval)),
-        Err(Stop::Refused(refusal)) => return Err(refusal),
+    let at = match direct(cpu, space, cpu.pc, Access::Fetch) {
+        Some(at) => at,
+        None => match translate(cpu, space, cpu.pc, Access::Fetch) {
+            Ok(at) => at,
+            Err(Stop::Trap { cause, tval }) => return Ok(trap(cpu, cause, tval)),
+            Err(Stop::Refused(refusal)) => return Err(refusal),
+        },
     };
     let _pages = space.pages();
     let word = space.read((at / 4096) as u32, (at % 4096 / 4) as u32, Access::Fetch)?;
-    match decode(word) {
-        Some(instr) => execute(cpu, hart, space, word, &instr),
-        None => Ok(trap(cpu, 2, word)),
-    }
+    execute(cpu, hart, space, word)
 }
 
-// Executes an instruction whose word was fetched.
-#[tactic(auto, unfolding(crate::specs::Act::carried_out))]
+// Executes the instruction of a word that was fetched. Its row is found and its work done in one function, so that one jump can
+// do both.
+#[tactic(auto, unfolding(crate::specs::Act::carried_out, crate::specs::Act::decoded, hv_isa::specs::Table::decode_of))]
 #[inline(always)]
-fn execute<S: Space>(
-    cpu: &mut Cpu,
-    hart: u32,
-    space: &mut S,
-    word: u32,
-    instr: &Instr,
-) -> Result<Touched, Refusal>
-    requires regs { NamesRegs instr.now }
+fn execute<S: Space>(cpu: &mut Cpu, hart: u32, space: &mut S, word: u32) -> Result<Touched, Refusal>
     requires next { cpu.old.next ≡ 0 }
     requires room { 0 < S.room space.old }
     ensures acts { acted result (S.storage space.new) cpu.new
-        ≡ carried_out (S.storage space.old) (S.slots space.old) cpu.old (do_of instr.now word cpu.old hart) }
+        ≡ decoded (S.storage space.old) (S.slots space.old) hart cpu.old word (decode_of word) }
     ensures touches { IfOk result (λ touched. Touches touched cpu.old cpu.new) }
     ensures next { cpu.new.next ≢ 0 → cpu.new.next < length (S.slots space.old) }
     ensures level { IfErr result (λ e. e.level < S.depth space.old) }
     ensures keeps { Keeps S.Space space.old space.new }
     ensures err { OnErr result (ChangedNothing S.Space space.old space.new cpu.old cpu.new) }
 {
-    match perform(cpu, hart, word, instr) {
+    let fetched = Fetched::new(cpu, word);
+    let task = match operation(word) {
+        Some(op) => perform::<S>(cpu, hart, op, fetched),
+        None => illegal(word),
+    };
+    match task {
         Task::Done { touched } => Ok(touched),
         Task::Trap { cause, tval } => Ok(trap(cpu, cause, tval)),
         Task::Load {
@@ -126,10 +124,13 @@ fn load<S: Space>(
     ensures keeps { Keeps S.Space space.old space.new }
     ensures err { OnErr result (ChangedNothing S.Space space.old space.new cpu.old cpu.new) }
 {
-    let at = match translate(cpu, space, address, Access::Read) {
-        Ok(at) => at,
-        Err(Stop::Trap { cause, tval }) => return Ok(trap(cpu, cause, tval)),
-        Err(Stop::Refused(refusal)) => return Err(refusal),
+    let at = match direct(cpu, space, address, Access::Read) {
+        Some(at) => at,
+        None => match translate(cpu, space, address, Access::Read) {
+            Ok(at) => at,
+            Err(Stop::Trap { cause, tval }) => return Ok(trap(cpu, cause, tval)),
+            Err(Stop::Refused(refusal)) => return Err(refusal),
+        },
     };
     let _pages = space.pages();
     let offset = (at % 4096) as u32;
@@ -158,10 +159,13 @@ fn store<S: Space>(
     ensures keeps { Keeps S.Space space.old space.new }
     ensures err { OnErr result (ChangedNothing S.Space space.old space.new cpu.old cpu.new) }
 {
-    let at = match translate(cpu, space, address, Access::Write) {
-        Ok(at) => at,
-        Err(Stop::Trap { cause, tval }) => return Ok(trap(cpu, cause, tval)),
-        Err(Stop::Refused(refusal)) => return Err(refusal),
+    let at = match direct(cpu, space, address, Access::Write) {
+        Some(at) => at,
+        None => match translate(cpu, space, address, Access::Write) {
+            Ok(at) => at,
+            Err(Stop::Trap { cause, tval }) => return Ok(trap(cpu, cause, tval)),
+            Err(Stop::Refused(refusal)) => return Err(refusal),
+        },
     };
     let _pages = space.pages();
     let offset = (at % 4096) as u32;

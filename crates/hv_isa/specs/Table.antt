@@ -194,43 +194,57 @@ has_word s w =
     is_at (fixed_of s) (field_of w 0 7) (field_of w 7 5) (field_of w 12 3) (field_of w 15 5)
     (field_of w 20 5) (field_of w 25 7)
 
+-- the immediates of the formats I, S, B, U and J (Unprivileged ISA, section 2.3)
+abbrev pub i_immediate : ℕ → ℕ
+i_immediate w = sext_of 12 (field_of w 20 12)
+
+abbrev pub s_immediate : ℕ → ℕ
+s_immediate w = sext_of 12 (field_of w 7 5 + field_of w 25 7 * 2 ^ 5)
+
+abbrev pub b_immediate : ℕ → ℕ
+b_immediate w =
+    sext_of 13
+    (field_of w 8 4 * 2 + field_of w 25 6 * 2 ^ 5 + field_of w 7 1 * 2 ^ 11 + field_of w 31 1 * 2 ^ 12)
+
+abbrev pub u_immediate : ℕ → ℕ
+u_immediate w = field_of w 12 20 * 2 ^ 12
+
+abbrev pub j_immediate : ℕ → ℕ
+j_immediate w =
+    sext_of 21
+    (field_of w 21 10 * 2 + field_of w 20 1 * 2 ^ 11 + field_of w 12 8 * 2 ^ 12 + field_of w 31 1 * 2 ^ 20)
+
 -- the fields of a word that has that shape, as an instruction
 abbrev pub fields_of : Shape → Op → ℕ → Instr
 fields_of (U _) op w =
-    record { op = op; rd = field_of w 7 5; rs1 = 0; rs2 = 0; imm = field_of w 12 20 * 2 ^ 12 }
+    record { op = op; rd = field_of w 7 5; rs1 = 0; rs2 = 0; imm = u_immediate w }
 fields_of (J _) op w = record {
   op = op;
   rd = field_of w 7 5;
   rs1 = 0;
   rs2 = 0;
-  imm =
-      sext_of 21
-      (field_of w 21 10 * 2 + field_of w 20 1 * 2 ^ 11 + field_of w 12 8 * 2 ^ 12
-      + field_of w 31 1 * 2 ^ 20);
+  imm = j_immediate w;
 }
 fields_of (B _ _) op w = record {
   op = op;
   rd = 0;
   rs1 = field_of w 15 5;
   rs2 = field_of w 20 5;
-  imm =
-      sext_of 13
-      (field_of w 8 4 * 2 + field_of w 25 6 * 2 ^ 5 + field_of w 7 1 * 2 ^ 11
-      + field_of w 31 1 * 2 ^ 12);
+  imm = b_immediate w;
 }
 fields_of (I _ _) op w = record {
   op = op;
   rd = field_of w 7 5;
   rs1 = field_of w 15 5;
   rs2 = 0;
-  imm = sext_of 12 (field_of w 20 12);
+  imm = i_immediate w;
 }
 fields_of (S _ _) op w = record {
   op = op;
   rd = 0;
   rs1 = field_of w 15 5;
   rs2 = field_of w 20 5;
-  imm = sext_of 12 (field_of w 7 5 + field_of w 25 7 * 2 ^ 5);
+  imm = s_immediate w;
 }
 fields_of (R _ _ _) op w = record {
   op = op;

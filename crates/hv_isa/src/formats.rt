@@ -1,4 +1,4 @@
-//! The formats: a word's fields read as an instruction, and an instruction's fields put into a word.
+//! The formats: a word read as an instruction, and an instruction's fields put into a word.
 
 ghost use Rattle.std.specs.Prelude.{ℕ, ◌≡◌, ◌<◌};
 ghost use Rattle.hv_word.specs.Words.{field_of};
@@ -6,32 +6,13 @@ ghost use Rattle.hv_isa.specs.Table.{B, Csr, Fits, I, J, One, Pair, R, S, Shift,
 ghost use Rattle.hv_isa.specs.declared.Instr.{Instr};
 ghost use Rattle.hv_isa.specs.declared.Op.{Op};
 
+use crate::fields::{
+    branch_offset, csr_number, immediate, jump_offset, rd, rs1, rs2, shift_amount, store_offset,
+    upper,
+};
 use crate::{Instr, Op};
-use hv_word::{field, sext};
+use hv_word::field;
 
-// The numbers in a word's three places for registers.
-#[inline(always)]
-fn rd(word: u32) -> u8
-    ensures { result ≡ field_of word 7 5 }
-{
-    field::<7, 5>(word) as u8
-}
-
-#[inline(always)]
-fn rs1(word: u32) -> u8
-    ensures { result ≡ field_of word 15 5 }
-{
-    field::<15, 5>(word) as u8
-}
-
-#[inline(always)]
-fn rs2(word: u32) -> u8
-    ensures { result ≡ field_of word 20 5 }
-{
-    field::<20, 5>(word) as u8
-}
-
-#[inline(always)]
 pub(crate) fn read_upper(op: Op, word: u32) -> Instr
     ensures { result ≡ fields_of (U 0) op word }
 {
@@ -40,69 +21,58 @@ pub(crate) fn read_upper(op: Op, word: u32) -> Instr
         rd: rd(word),
         rs1: 0,
         rs2: 0,
-        imm: field::<12, 20>(word) << 12,
+        imm: upper(word),
     }
 }
 
-#[inline(always)]
 pub(crate) fn read_jump(op: Op, word: u32) -> Instr
     ensures { result ≡ fields_of (J 0) op word }
 {
-    let low = (field::<21, 10>(word) << 1) + (field::<20, 1>(word) << 11);
-    let high = (field::<12, 8>(word) << 12) + (field::<31, 1>(word) << 20);
     Instr {
         op,
         rd: rd(word),
         rs1: 0,
         rs2: 0,
-        imm: sext::<21>(low + high),
+        imm: jump_offset(word),
     }
 }
 
-#[inline(always)]
 pub(crate) fn read_branch(op: Op, word: u32) -> Instr
     ensures { result ≡ fields_of (B 0 0) op word }
 {
-    let low = (field::<8, 4>(word) << 1) + (field::<25, 6>(word) << 5);
-    let high = (field::<7, 1>(word) << 11) + (field::<31, 1>(word) << 12);
     Instr {
         op,
         rd: 0,
         rs1: rs1(word),
         rs2: rs2(word),
-        imm: sext::<13>(low + high),
+        imm: branch_offset(word),
     }
 }
 
-#[inline(always)]
 pub(crate) fn read_immediate(op: Op, word: u32) -> Instr
     ensures { result ≡ fields_of (I 0 0) op word }
 {
-    let imm = sext::<12>(field::<20, 12>(word));
     Instr {
         op,
         rd: rd(word),
         rs1: rs1(word),
         rs2: 0,
-        imm,
+        imm: immediate(word),
     }
 }
 
-#[inline(always)]
 pub(crate) fn read_store(op: Op, word: u32) -> Instr
     ensures { result ≡ fields_of (S 0 0) op word }
 {
-    let imm = sext::<12>(field::<7, 5>(word) + (field::<25, 7>(word) << 5));
     Instr {
         op,
         rd: 0,
         rs1: rs1(word),
         rs2: rs2(word),
-        imm,
+        imm: store_offset(word),
     }
 }
 
-#[inline(always)]
 pub(crate) fn read_registers(op: Op, word: u32) -> Instr
     ensures { result ≡ fields_of (R 0 0 0) op word }
 {
@@ -115,7 +85,6 @@ pub(crate) fn read_registers(op: Op, word: u32) -> Instr
     }
 }
 
-#[inline(always)]
 pub(crate) fn read_shift(op: Op, word: u32) -> Instr
     ensures { result ≡ fields_of (Shift 0 0 0) op word }
 {
@@ -124,11 +93,10 @@ pub(crate) fn read_shift(op: Op, word: u32) -> Instr
         rd: rd(word),
         rs1: rs1(word),
         rs2: 0,
-        imm: field::<20, 5>(word),
+        imm: shift_amount(word),
     }
 }
 
-#[inline(always)]
 pub(crate) fn read_control(op: Op, word: u32) -> Instr
     ensures { result ≡ fields_of (Csr 0 0) op word }
 {
@@ -137,11 +105,10 @@ pub(crate) fn read_control(op: Op, word: u32) -> Instr
         rd: rd(word),
         rs1: rs1(word),
         rs2: 0,
-        imm: field::<20, 12>(word),
+        imm: csr_number(word),
     }
 }
 
-#[inline(always)]
 pub(crate) fn read_pair(op: Op, word: u32) -> Instr
     ensures { result ≡ fields_of (Pair 0 0 0) op word }
 {
@@ -154,7 +121,6 @@ pub(crate) fn read_pair(op: Op, word: u32) -> Instr
     }
 }
 
-#[inline(always)]
 pub(crate) fn read_source(op: Op, word: u32) -> Instr
     ensures { result ≡ fields_of (One 0 0) op word }
 {
@@ -167,7 +133,6 @@ pub(crate) fn read_source(op: Op, word: u32) -> Instr
     }
 }
 
-#[inline(always)]
 pub(crate) fn read_whole(op: Op) -> Instr
     ensures { result ≡ fields_of (Whole 0 0 0) op 0 }
 {

@@ -3,14 +3,19 @@
 
 ghost use Rattle.std.specs.Prelude.{◌≡◌, ◌≢◌, IfNone, IfSome};
 ghost use Rattle.hv_isa.specs.Names.{name_of};
-ghost use Rattle.hv_isa.specs.Table.{Fits, NamesRegs, Row, decode_of, row_of, spell};
+ghost use Rattle.hv_isa.specs.Table.{Fits, NamesRegs, Row, decode_of, fields_of, op_of, row_of, spell};
 ghost use Rattle.hv_isa.specs.declared.Instr.{Instr};
 ghost use Rattle.hv_isa.specs.declared.Op.{Op};
 
 mod csrs;
+mod fields;
 mod formats;
 
 pub use csrs::{csr_by_name, csr_name};
+pub use fields::{
+    branch_offset, csr_number, immediate, jump_offset, rd, rs1, rs2, shift_amount, store_offset,
+    upper,
+};
 use formats::{
     read_branch, read_control, read_immediate, read_jump, read_pair, read_registers, read_shift,
     read_source, read_store, read_upper, read_whole, spell_branch, spell_control, spell_immediate,
@@ -182,7 +187,37 @@ macro_rules! fixed {
     (Whole $f7:literal $rs2:literal) => { (0, $f7, 0, 0, $rs2) };
 }
 
-// The instruction of a word that has the row's fixed fields.
+macro_rules! operation_arms {
+    ([$word:ident]
+        { $($single:literal $row:ident $text:literal $format:tt,)* }
+        $($opcode:literal { $($op:ident $name:literal ($($fixed:tt)*),)* })*
+    ) => {{
+        let opcode = field::<0, 7>($word);
+        let rd = field::<7, 5>($word);
+        let f3 = field::<12, 3>($word);
+        let rs1 = field::<15, 5>($word);
+        let rs2 = field::<20, 5>($word);
+        let f7 = field::<25, 7>($word);
+        match opcode {
+            $($single => Some(Op::$row),)*
+            $($opcode => match (f3, f7, rd, rs1, rs2) {
+                $(fixed!($($fixed)*) => Some(Op::$op),)*
+                _ => None,
+            },)*
+            _ => None,
+        }
+    }};
+}
+
+/// The operation of the row that has this word; None where no row has it.
+#[inline(always)]
+pub fn operation(word: u32) -> Option<Op>
+    ensures { result ≡ op_of word }
+{
+    rows!(operation_arms word)
+}
+
+// The instruction of a word of the row, by the row's format.
 macro_rules! read {
     ($op:ident $word:ident (U)) => { read_upper(Op::$op, $word) };
     ($op:ident $word:ident (J)) => { read_jump(Op::$op, $word) };
@@ -197,35 +232,23 @@ macro_rules! read {
     ($op:ident $word:ident (Whole $($fixed:literal)*)) => { read_whole(Op::$op) };
 }
 
-macro_rules! decode_arms {
-    ([$word:ident]
+macro_rules! read_arms {
+    ([$choice:ident $word:ident]
         { $($single:literal $row:ident $text:literal $format:tt,)* }
-        $($opcode:literal { $($op:ident $name:literal ($($fixed:tt)*),)* })*
-    ) => {{
-        let opcode = field::<0, 7>($word);
-        let rd = field::<7, 5>($word);
-        let f3 = field::<12, 3>($word);
-        let rs1 = field::<15, 5>($word);
-        let rs2 = field::<20, 5>($word);
-        let f7 = field::<25, 7>($word);
-        match opcode {
-            $($single => Some(read!($row $word $format)),)*
-            $($opcode => match (f3, f7, rd, rs1, rs2) {
-                $(fixed!($($fixed)*) => Some(read!($op $word ($($fixed)*))),)*
-                _ => None,
-            },)*
-            _ => None,
+        $($opcode:literal { $($op:ident $name:literal $fixed:tt,)* })*
+    ) => {
+        match $choice {
+            $(Op::$row => read!($row $word $format),)*
+            $($(Op::$op => read!($op $word $fixed),)*)*
         }
-    }};
+    };
 }
 
-// One `match` on the opcode and one inside it find the row, with no second look at the operation.
-#[tactic(auto, unfolding(crate::specs::Table::decode_of))]
-#[inline(always)]
-fn find_row(word: u32) -> Option<Instr>
-    ensures { result ≡ decode_of word }
+// The fields of a word as those of an instruction of this operation.
+fn read_row(op: Op, word: u32) -> Instr
+    ensures { result ≡ fields_of (row_of op) op word }
 {
-    rows!(decode_arms word)
+    rows!(read_arms op word)
 }
 
 // The word of an instruction, from its row's opcode and format.
@@ -287,8 +310,15 @@ fn spell_row(instr: &Instr) -> u32
     rows!(encode_arms instr)
 }
 
+#[tactic(auto, unfolding(crate::specs::Table::decode_of))]
+fn find_row(word: u32) -> Option<Instr>
+    ensures { result ≡ decode_of word }
+{
+    let op = operation(word)?;
+    Some(read_row(op, word))
+}
+
 /// The instruction whose word this is; None where no row has the word.
-#[inline(always)]
 pub fn decode(word: u32) -> Option<Instr>
     ensures row { result ≡ decode_of word }
     ensures found { IfSome result (λ i. Row i word) }

@@ -107,8 +107,8 @@ fn bare_step(store: &mut Store, notes: &mut Notes, cpu: &mut Cpu, hart: u32, out
     notes.tell(store, &mut outcome.changed);
 }
 
-// One instruction of the bare machine.
-#[inline(always)]
+// One instruction of the bare machine. It is called in several places, and so large that it stays a function of its own.
+#[inline(never)]
 #[tactic(auto, using(crate::proofs::Counts::counts))]
 fn act_bare(store: &mut Store, notes: &mut Notes, hart: u32, cpu: &mut Cpu)
     requires fresh { notes.old ≡ [] }

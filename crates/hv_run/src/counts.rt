@@ -33,15 +33,15 @@ impl Counts {
 
     /// Counts a step of a hart.
     #[inline(always)]
-    pub(crate) fn tell(&mut self, hart: u32, kind: StepKind)
+    pub(crate) fn tell(&mut self, hart: u32, kind: &StepKind)
         requires { CountsWithin (2 ^ 62) self.old }
-        ensures counts { self.new ≡ kind_after self.old hart kind }
+        ensures counts { self.new ≡ kind_after self.old hart kind.now }
         ensures steps { self.new.steps ≤ self.old.steps + 1 }
         ensures faults { self.new.faults ≤ self.old.faults + 1 }
         ensures recalls { self.new.recalls ≤ self.old.recalls + 1 }
     {
         self.steps += 1;
-        match kind {
+        match *kind {
             StepKind::Worked => {}
             StepKind::Recall { receiver: _ } => self.recalls += 1,
             StepKind::Fault {

@@ -195,7 +195,7 @@ impl Play {
         self.running.find(nested, hart, &self.watched);
         nested.step_into(hart, outcome);
         self.calls += 1;
-        self.counts.tell(hart, outcome.kind);
+        self.counts.tell(hart, &outcome.kind);
         step_all(&mut self.watched, nested, hart, &self.running, outcome);
     }
 

@@ -39,9 +39,21 @@ impl Running {
         ensures same { N.state nested.new ≡ N.state nested.old }
     {
         if !watched.is_empty() && !nested.runs(hart, &self.path) {
-            self.path = nested.running(hart);
-            mark(&mut self.inside, &self.path, watched);
+            self.replace(nested, hart, watched);
         }
+    }
+
+    // Replaces the path by that of the machine that a hart runs. It is no part of `find`, since most steps replace none.
+    #[inline(never)]
+    fn replace<N: Nested>(&mut self, nested: &mut N, hart: u32, watched: &[Watched])
+        requires hart { hart < length (N.state nested.old).harts }
+        requires inside { self.old.inside.items ≡ inside_of self.old.path watched.now }
+        ensures inside { self.new.inside.items ≡ inside_of self.new.path watched.now }
+        ensures path { self.new.path ≡ running_of (N.state nested.old) hart }
+        ensures same { N.state nested.new ≡ N.state nested.old }
+    {
+        self.path = nested.running(hart);
+        mark(&mut self.inside, &self.path, watched);
     }
 }
 

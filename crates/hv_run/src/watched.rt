@@ -91,9 +91,9 @@ impl Watched {
     // Whether a step of a hart counts for the watch. The hart ran the machine on the path `running` before it; `inside` says
     // whether the watch's path begins that.
     #[inline(always)]
-    fn counts(&self, hart: u32, running: &Path, inside: bool, kind: StepKind) -> bool
+    fn counts(&self, hart: u32, running: &Path, inside: bool, kind: &StepKind) -> bool
         requires { inside ≡ begins self.now.so_far.path running.now }
-        ensures { result ≡ counts_step self.now.so_far hart running.now kind }
+        ensures { result ≡ counts_step self.now.so_far hart running.now kind.now }
     {
         hart == self.hart && inside && !is_outside(self.path.len(), kind)
     }
@@ -116,7 +116,7 @@ impl Watched {
             ≡ watched_after (Stepped hart running.now outcome.now.kind outcome.now.changed) (N.state nested.now) self.old }
     {
         let status = self.status_now(nested);
-        if self.counts(hart, running, inside, outcome.kind) {
+        if self.counts(hart, running, inside, &outcome.kind) {
             self.count += 1;
             self.status = status;
             return;
@@ -242,10 +242,10 @@ fn any_changed(foot: &Footing, changed: &Changed) -> bool
 
 // Whether a recall or a fault was received at a level below `level`.
 #[inline(always)]
-fn is_outside(level: u32, kind: StepKind) -> bool
-    ensures { result ≡ is_outside level kind }
+fn is_outside(level: u32, kind: &StepKind) -> bool
+    ensures { result ≡ is_outside level kind.now }
 {
-    match kind {
+    match *kind {
         StepKind::Worked => false,
         StepKind::Recall { receiver } | StepKind::Fault { receiver, .. } => receiver < level,
     }

@@ -24,6 +24,7 @@ const ACCESSED: u32 = 6;
 
 const DIRTY: u32 = 7;
 
+#[inline(always)]
 fn has_bit<const AT: u32>(word: u32) -> bool
     requires { AT + 1 ≤ 32 }
     ensures { result ≡ spec.has_bit word AT }
@@ -32,6 +33,7 @@ fn has_bit<const AT: u32>(word: u32) -> bool
 }
 
 /// Whether an entry is invalid, or writable and not readable, which is reserved.
+#[inline(always)]
 pub fn is_faulty(entry: u32) -> bool
     ensures { result ≡ spec.is_faulty entry }
 {
@@ -39,6 +41,7 @@ pub fn is_faulty(entry: u32) -> bool
 }
 
 /// Whether an entry that isn't faulty names a page, and not a table.
+#[inline(always)]
 pub fn is_leaf(entry: u32) -> bool
     ensures { result ≡ spec.is_leaf entry }
 {
@@ -46,6 +49,7 @@ pub fn is_leaf(entry: u32) -> bool
 }
 
 /// Whether U, A and D are clear, as they must be in a pointer.
+#[inline(always)]
 pub fn is_plain(entry: u32) -> bool
     ensures { result ≡ spec.is_plain entry }
 {
@@ -53,6 +57,7 @@ pub fn is_plain(entry: u32) -> bool
 }
 
 /// The mode that an access is made in.
+#[inline(always)]
 pub fn effective_mode(cpu: &Cpu, access: Access) -> Mode
     ensures { mode_word result ≡ spec.effective_mode cpu.now access }
 {
@@ -67,6 +72,7 @@ pub fn effective_mode(cpu: &Cpu, access: Access) -> Mode
 }
 
 // Whether a leaf is for this kind of access.
+#[inline(always)]
 fn permits(cpu: &Cpu, access: Access, entry: u32) -> bool
     ensures { result ≡ spec.permits cpu.now access entry }
 {
@@ -79,25 +85,30 @@ fn permits(cpu: &Cpu, access: Access, entry: u32) -> bool
 }
 
 // Whether a leaf is for the mode that the access is made in, U or S.
-fn admits(cpu: &Cpu, access: Access, entry: u32) -> bool
+#[inline(always)]
+fn admits(cpu: &Cpu, mode: Mode, access: Access, entry: u32) -> bool
+    requires { mode_word mode ≡ spec.effective_mode cpu.now access }
     ensures { result ≡ spec.admits cpu.now access entry }
 {
-    match effective_mode(cpu, access) {
+    match mode {
         Mode::U => has_bit::<USER>(entry),
         _ => !has_bit::<USER>(entry) || access != Access::Fetch && has_bit::<SUM>(cpu.mstatus),
     }
 }
 
 // Whether software has marked a leaf as accessed, and for a store as dirty.
+#[inline(always)]
 fn shows_use(access: Access, entry: u32) -> bool
     ensures { result ≡ spec.shows_use access entry }
 {
     has_bit::<ACCESSED>(entry) && (access != Access::Write || has_bit::<DIRTY>(entry))
 }
 
-/// Whether a leaf lets an access through.
-pub fn grants(cpu: &Cpu, access: Access, entry: u32) -> bool
+/// Whether a leaf lets an access through, which is made in this mode.
+#[inline(always)]
+pub fn grants(cpu: &Cpu, mode: Mode, access: Access, entry: u32) -> bool
+    requires { mode_word mode ≡ spec.effective_mode cpu.now access }
     ensures { result ≡ spec.grants cpu.now access entry }
 {
-    permits(cpu, access, entry) && admits(cpu, access, entry) && shows_use(access, entry)
+    permits(cpu, access, entry) && admits(cpu, mode, access, entry) && shows_use(access, entry)
 }

@@ -1,9 +1,11 @@
 //! The page walk: from an address that an instruction uses to an address of the machine's storage.
 #![tactic(auto)]
 
-ghost use Rattle.std.specs.Prelude.{◌≡◌, ◌^◌, ◌<◌};
+ghost use Rattle.std.specs.Prelude.{◌≡◌, ◌^◌, ◌/◌, ◌%◌, ◌<◌, IfSome, length};
+ghost use Rattle.hv_cpu.specs.Modes.{mode_word};
 ghost use Rattle.hv_store.specs.Space.{OnlyReads};
-ghost use Rattle.hv_sv32.specs.Stop.{FitsMachine, walked};
+ghost use Rattle.hv_sv32.specs.Entry as spec;
+ghost use Rattle.hv_sv32.specs.Stop.{FitsMachine, Found, walked};
 ghost use Rattle.hv_sv32.specs.Walk.{access_fault_of, at_first, at_second, is_bare, page_fault_of, located, through_first, through_second, walk_of};
 
 mod entry;
@@ -21,9 +23,24 @@ pub enum Stop {
     Refused(Refusal),
 }
 
+/// The same as `translate` where no page table is asked and the machine has the page; None elsewhere. It is what most accesses
+/// are, and answers without a result in memory.
+#[inline(always)]
+pub fn direct<S: Space>(cpu: &Cpu, space: &S, address: u32, access: Access) -> Option<u64>
+    ensures walks { IfSome result (λ at.
+        Found (at / 4096) (at % 4096) ≡ walk_of (S.storage space.now) (S.slots space.now) cpu.now address access) }
+    ensures fits { IfSome result (λ at. (at / 4096 < length (S.slots space.now)) × (at < 2 ^ 34)) }
+{
+    if is_untranslated(cpu, access) && address / 4096 < space.pages() {
+        Some(u64::from(address))
+    } else {
+        None
+    }
+}
+
 /// The address in storage of the byte that `address` names for an access, by the Sv32 page table of `cpu`. It is 4096 times
 /// a page of the machine and an offset, with at most 34 bits. Nothing is written.
-#[inline(always)]
+#[inline(never)]
 pub fn translate<S: Space>(
     cpu: &Cpu,
     space: &mut S,
@@ -35,17 +52,26 @@ pub fn translate<S: Space>(
     ensures fits { FitsMachine (S.slots space.old) (S.depth space.old) result }
     ensures reads { OnlyReads S.Space space.old space.new }
 {
-    if is_untranslated(cpu, access) {
-        place(space, address / 4096, address, access)
-    } else {
-        walk(cpu, space, address, access)
+    if field::<31, 1>(cpu.satp) == 0 {
+        return place(space, address / 4096, address, access);
+    }
+    match effective_mode(cpu, access) {
+        Mode::M => place(space, address / 4096, address, access),
+        mode => walk(cpu, space, address, access, mode),
     }
 }
 
-// From the first table on. It is no part of `translate`, which answers at once where there is no table.
-#[inline(never)]
-fn walk<S: Space>(cpu: &Cpu, space: &mut S, address: u32, access: Access) -> Result<u64, Stop>
-    requires { 0 < S.room space.old }
+// From the first table on.
+#[inline(always)]
+fn walk<S: Space>(
+    cpu: &Cpu,
+    space: &mut S,
+    address: u32,
+    access: Access,
+    mode: Mode,
+) -> Result<u64, Stop>
+    requires room { 0 < S.room space.old }
+    requires mode { mode_word mode ≡ spec.effective_mode cpu.now access }
     ensures walks { walked result ≡ through_first (S.storage space.old) (S.slots space.old) cpu.now address access }
     ensures fits { FitsMachine (S.slots space.old) (S.depth space.old) result }
     ensures reads { OnlyReads S.Space space.old space.new }
@@ -55,20 +81,23 @@ fn walk<S: Space>(cpu: &Cpu, space: &mut S, address: u32, access: Access) -> Res
         return Err(access_fault(address, access));
     }
     match space.read(table, field::<22, 10>(address), Access::Read) {
-        Ok(entry) => first_entry(cpu, space, entry, address, access),
+        Ok(entry) => first_entry(cpu, space, entry, address, access, mode),
         Err(refusal) => Err(Stop::Refused(refusal)),
     }
 }
 
 // From an entry of a first table on.
+#[inline(always)]
 fn first_entry<S: Space>(
     cpu: &Cpu,
     space: &mut S,
     entry: u32,
     address: u32,
     access: Access,
+    mode: Mode,
 ) -> Result<u64, Stop>
-    requires { 0 < S.room space.old }
+    requires room { 0 < S.room space.old }
+    requires mode { mode_word mode ≡ spec.effective_mode cpu.now access }
     ensures walks { walked result ≡ at_first (S.storage space.old) (S.slots space.old) cpu.now address access entry }
     ensures fits { FitsMachine (S.slots space.old) (S.depth space.old) result }
     ensures reads { OnlyReads S.Space space.old space.new }
@@ -76,7 +105,7 @@ fn first_entry<S: Space>(
     if is_faulty(entry) {
         Err(page_fault(address, access))
     } else if is_leaf(entry) {
-        if field::<10, 10>(entry) == 0 && grants(cpu, access, entry) {
+        if field::<10, 10>(entry) == 0 && grants(cpu, mode, access, entry) {
             place(
                 space,
                 field::<20, 12>(entry) * 1024 + field::<12, 10>(address),
@@ -87,21 +116,24 @@ fn first_entry<S: Space>(
             Err(page_fault(address, access))
         }
     } else if is_plain(entry) {
-        descend(cpu, space, field::<10, 22>(entry), address, access)
+        descend(cpu, space, field::<10, 22>(entry), address, access, mode)
     } else {
         Err(page_fault(address, access))
     }
 }
 
 // From a second table on.
+#[inline(always)]
 fn descend<S: Space>(
     cpu: &Cpu,
     space: &mut S,
     table: u32,
     address: u32,
     access: Access,
+    mode: Mode,
 ) -> Result<u64, Stop>
-    requires { 0 < S.room space.old }
+    requires room { 0 < S.room space.old }
+    requires mode { mode_word mode ≡ spec.effective_mode cpu.now access }
     ensures walks { walked result ≡ through_second (S.storage space.old) (S.slots space.old) cpu.now table address access }
     ensures fits { FitsMachine (S.slots space.old) (S.depth space.old) result }
     ensures reads { OnlyReads S.Space space.old space.new }
@@ -110,25 +142,28 @@ fn descend<S: Space>(
         return Err(access_fault(address, access));
     }
     match space.read(table, field::<12, 10>(address), Access::Read) {
-        Ok(entry) => second_entry(cpu, space, entry, address, access),
+        Ok(entry) => second_entry(cpu, space, entry, address, access, mode),
         Err(refusal) => Err(Stop::Refused(refusal)),
     }
 }
 
 // At an entry of a second table.
+#[inline(always)]
 fn second_entry<S: Space>(
     cpu: &Cpu,
     space: &S,
     entry: u32,
     address: u32,
     access: Access,
+    mode: Mode,
 ) -> Result<u64, Stop>
+    requires { mode_word mode ≡ spec.effective_mode cpu.now access }
     ensures walks { walked result ≡ at_second (S.slots space.now) cpu.now address access entry }
     ensures fits { FitsMachine (S.slots space.now) (S.depth space.now) result }
 {
     if is_faulty(entry) {
         Err(page_fault(address, access))
-    } else if is_leaf(entry) && grants(cpu, access, entry) {
+    } else if is_leaf(entry) && grants(cpu, mode, access, entry) {
         place(space, field::<10, 22>(entry), address, access)
     } else {
         Err(page_fault(address, access))

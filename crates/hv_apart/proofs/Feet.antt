@@ -1,5 +1,5 @@
 -- The places of a machine's words, some more each time.
-use Rattle.std.proofs.Common.{◌≡◌, ℕ, suc, ◌+◌, ◌*◌, ◌%◌, ◌<◌, List, [], ◌∷◌, ◌++◌, length, map, Option, Some, None, refl, ap, ap₂, ◌∙◌, sym, arith, slice_get, take, append_assoc}
+use Rattle.std.proofs.Common.{◌≡◌, ℕ, zero, suc, ◌+◌, ◌*◌, ◌/◌, ◌%◌, ◌<◌, ◌≤◌, List, [], ◌∷◌, ◌++◌, length, map, Option, Some, None, refl, ap, ap₂, ◌∙◌, sym, arith, slice_get, take, append_assoc}
 use Rattle.std.specs.List.{range_with_len, flat_map}
 use Rattle.std.specs.Option.{option_to_list}
 use Rattle.std.proofs.lemmas.List.{append-nil}
@@ -15,6 +15,7 @@ use Rattle.hv_map.specs.Compose.{compose, reading, table_of}
 use Rattle.hv_map.specs.Item.{Item}
 use Rattle.hv_map.specs.Links.{chain_item}
 use Rattle.hv_map.specs.declared.chain.ChainItem.{ChainItem}
+use Rattle.hv_map.proofs.Caching.{table_open-same}
 use Rattle.hv_nest.specs.Watched.{places, item_foot, chain_foot, own_places, page_foot}
 use Rattle.hv_apart.specs.Table.{machine_of, table_places, places_in}
 use Rattle.hv_apart.proofs.Growing.{range-push, take-push, flat_map-push, pages-push}
@@ -23,7 +24,7 @@ use Rattle.hv_apart.proofs.Growing.{range-push, take-push, flat_map-push, pages-
 pub places-push : (g from k : ℕ) → places g (range_with_len from (k + 1)) ≡ places g (range_with_len from k) ++ (1024 * g + (from + k)) ∷ []
 places-push g from k = map-range_with_len_more (λ (n : ℕ). 1024 * g + n) from k (from + k) refl
 
-places-append : (g : ℕ) (ks ns : List ℕ) → places g (ks ++ ns) ≡ places g ks ++ places g ns
+pub places-append : (g : ℕ) (ks ns : List ℕ) → places g (ks ++ ns) ≡ places g ks ++ places g ns
 places-append g [] ns = refl
 places-append g (k ∷ ks) ns = ap (λ (xs : List ℕ). (1024 * g + k) ∷ xs) (places-append g ks ns)
 
@@ -55,6 +56,46 @@ table_places-push S F j x i =
 
     of : ℕ → List ℕ
     of n = map (λ (g : ℕ). 1024 * g + n % 1024) (opens n)
+
+-- those in one page of the table
+places_in-push : (r : Option ℕ) (n : ℕ) → places_in 0 n (option_to_list r) ++ places_in n 1 (option_to_list r) ≡ places_in 0 (n + 1) (option_to_list r)
+places_in-push None n = refl
+places_in-push (Some g) n =
+    ap₂ (λ (a b : List ℕ). a ++ b) (append-nil (places g (range_with_len 0 n))) (append-nil (places g (range_with_len n 1)))
+    ∙ ap (λ (k : ℕ). places g (range_with_len 0 n) ++ (1024 * g + k) ∷ []) (omega arith)
+    ∙ sym (places-push g 0 n)
+    ∙ sym (append-nil (places g (range_with_len 0 (n + 1))))
+
+pub table_places-chunk : (S : List ℕ) (F : List Slot) (j : ℕ) (x : Item) (k n : ℕ) (r : Option ℕ)
+    → n ≤ 1024
+    → option_to_list r ≡ table_open F (table_of S (reading F) j x.table x.version (1024 * k))
+    → table_places S F j x (1024 * k + n) ≡ table_places S F j x (1024 * k) ++ places_in 0 n (option_to_list r)
+table_places-chunk S F j x k zero r h is =
+    let start : 1024 * k + 0 ≡ 1024 * k = omega arith in
+    ap (table_places S F j x) start
+    ∙ sym (append-nil (table_places S F j x (1024 * k)))
+    ∙ ap (λ (xs : List ℕ). table_places S F j x (1024 * k) ++ xs) (none r)
+  where
+    none : (o : Option ℕ) → [] ≡ places_in 0 0 (option_to_list o)
+    none None = refl
+    none (Some g) = refl
+table_places-chunk S F j x k (suc n) r h is =
+    let more : 1024 * k + suc n ≡ 1024 * k + n + 1 = omega arith in
+    let word : (1024 * k + n) % 1024 ≡ n = omega arith in
+    let page : (1024 * k + n) / 1024 ≡ 1024 * k / 1024 = omega arith in
+    let next : n + 1 ≡ suc n = omega arith in
+    let before = table_places S F j x (1024 * k) in
+    let some = places_in 0 n (option_to_list r) in
+    let same : table_open F (table_of S (reading F) j x.table x.version (1024 * k + n)) ≡ option_to_list r =
+    table_open-same S F j (1024 * k + n) (1024 * k) x.table x.version page ∙ sym is
+    in
+    ap (table_places S F j x) more
+    ∙ table_places-push S F j x (1024 * k + n)
+    ∙ ap₂ (λ (xs gs : List ℕ). xs ++ places_in ((1024 * k + n) % 1024) 1 gs) (table_places-chunk S F j x k n r (omega arith) is) same
+    ∙ ap (λ (m : ℕ). (before ++ some) ++ places_in m 1 (option_to_list r)) word
+    ∙ append_assoc before some (places_in n 1 (option_to_list r))
+    ∙ ap (λ (xs : List ℕ). before ++ xs) (places_in-push r n)
+    ∙ ap (λ (m : ℕ). before ++ places_in 0 m (option_to_list r)) next
 
 -- what one machine's map is read from
 pub item-parts : (S : List ℕ) (F : List Slot) (j : ℕ) (c : ChainItem)

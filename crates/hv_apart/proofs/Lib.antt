@@ -2,6 +2,15 @@ pub mod Adding
 pub mod BitSets
 pub mod Clearing
 pub mod Feet
+pub mod Filling
 pub mod Growing
 pub mod Joining
 pub mod Lists
+pub mod Members
+pub mod Plans
+pub mod Refusals
+pub mod Repinned
+pub mod Rewriting
+pub mod SameMap
+pub mod Stood
+pub mod Upgraded

@@ -1,7 +1,8 @@
 //! Sets of numbers, a bit for each.
 
-ghost use Rattle.std.specs.Prelude.{◌≡◌, ℕ, ◌/◌, ◌<◌, ◌==◌, ◌||◌, ◌&&◌, not, length};
-ghost use Rattle.hv_apart.specs.Marked.{is_marked};
+ghost use Rattle.std.specs.Prelude.{◌≡◌, ℕ, ◌*◌, ◌/◌, ◌<◌, ◌==◌, ◌||◌, ◌&&◌, not, length};
+ghost use Rattle.std.specs.List.{range_with_len};
+ghost use Rattle.hv_apart.specs.Marked.{Joined, is_marked};
 
 /// Whether a number is in the set.
 #[tactic(auto, using(crate::proofs::BitSets::bit_sets))]
@@ -26,6 +27,15 @@ pub(crate) fn set(words: &mut [u32], at: u32) -> bool
     let word = words[i];
     words[i] = word | 1 << (at % 32);
     word >> (at % 32) & 1 == 1
+}
+
+/// Puts the 32 numbers of a word into the set.
+pub(crate) fn fill(words: &mut [u32], i: usize)
+    requires { i < length words.old }
+    ensures filled { Joined words.old words.new (range_with_len (32 * i) 32) }
+    ensures length { length words.new ≡ length words.old }
+{
+    words[i] = u32::MAX;
 }
 
 /// Takes a number out of the set.

@@ -6,13 +6,14 @@ ghost use Rattle.hv_word.specs.Storage.{page_count};
 ghost use Rattle.hv_store.specs.Access.{identity};
 ghost use Rattle.hv_map.specs.Chain.{map_along, pin_of};
 ghost use Rattle.hv_map.specs.Links.{last_block, syllable_of};
+ghost use Rattle.hv_map.specs.Tables.{IsCacheOf};
 ghost use Rattle.hv_nest.specs.Watched.{but_lines, chain_foot, foot, item_foot, own_places, page_foot, standing_places};
 ghost use Rattle.hv_apart.specs.Marked.{Joined, SetOf, is_marked};
 ghost use Rattle.hv_apart.specs.Table.{machine_of, places_in, table_places};
 
-use crate::bits::{clear, is_set, set};
-use crate::pages::{directory, prefix, read_at, table_page};
-use hv_map::{Chain, ChainItem};
+use crate::bits::{clear, fill, is_set, set};
+use crate::pages::{directory, prefix, table_page};
+use hv_map::{Chain, ChainItem, TableCache};
 use hv_store::Store;
 use std::alloc::{AllocError, Global};
 use std::marker::Model;
@@ -105,26 +106,31 @@ fn put_item(words: &mut [u32], store: &Store, chain: &Chain, child: ChainItem)
     requires room { length words.old ≡ 32 * page_count store.now }
     ensures { Joined words.old words.new (item_foot store.now (map_along store.now chain.now) (length chain.now) (machine_of child)) }
 {
+    let mut cache = TableCache::new();
     put_words(words, store, Some(child.block), 65, 3);
     let tables = (child.pages + 1023) / 1024;
-    put_words(words, store, directory(store, chain, child), 0, tables);
-    put_tables(words, store, chain, child);
+    let page = directory(&mut cache, store, chain, child);
+    put_words(words, store, page, 0, tables);
+    put_tables(words, &mut cache, store, chain, child);
 }
 
 // The table words of the pages of a child of the chain's machine.
-fn put_tables(words: &mut [u32], store: &Store, chain: &Chain, child: ChainItem)
+fn put_tables(
+    words: &mut [u32],
+    cache: &mut TableCache,
+    store: &Store,
+    chain: &Chain,
+    child: ChainItem,
+)
     requires pages { child.pages ≤ 2 ^ 20 }
     requires room { length words.old ≡ 32 * page_count store.now }
+    requires cache { IsCacheOf store.now chain.now cache.old }
     ensures { Joined words.old words.new (table_places store.now (map_along store.now chain.now) (length chain.now) (machine_of child) child.pages) }
 {
-    for i in 0..child.pages {
-        put_words(
-            words,
-            store,
-            table_page(store, chain, child, i),
-            i % 1024,
-            1,
-        );
+    for k in 0..(child.pages + 1023) / 1024 {
+        let first = 1024 * k;
+        let table = table_page(cache, store, chain, child, first);
+        put_words(words, store, table, 0, (child.pages - first).min(1024));
     }
 }
 
@@ -145,14 +151,25 @@ fn put_pages(words: &mut [u32], store: &Store, chain: &Chain)
     requires room { length words.old ≡ 32 * page_count store.now }
     ensures { Joined words.old words.new (page_foot (map_along store.now chain.now)) }
 {
+    let mut cache = TableCache::new();
     for page in 0..chain.pages(store) {
-        put_words(
-            words,
-            store,
-            read_at(store, chain, u64::from(page)),
-            0,
-            1024,
-        );
+        let host = cache.read(store, chain, u64::from(page));
+        put_page(words, store, host);
+    }
+}
+
+// The places of all words of a bare page, if there is a page.
+fn put_page(words: &mut [u32], store: &Store, page: Option<u32>)
+    requires page { IfSome page (λ g. g < page_count store.now) }
+    requires room { length words.old ≡ 32 * page_count store.now }
+    ensures { Joined words.old words.new (places_in 0 1024 (option_to_list page)) }
+{
+    let _pages = store.pages();
+    let Some(page) = page else {
+        return;
+    };
+    for k in 0..32 {
+        fill(words, 32 * page as usize + k);
     }
 }
 

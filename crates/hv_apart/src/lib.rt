@@ -1,11 +1,15 @@
-//! Whether the pages that a machine stands on lie in different bare pages, and the places of the words that are its own.
+//! Whether the pages that a machine stands on lie in different bare pages, the places of the words that are its own, and
+//! upgrading a machine that stands apart from version 0 to version 2.
 #![tactic(auto)]
 
 mod bits;
 mod foot;
+pub mod laws;
 mod marks;
 mod pages;
 mod standing;
+mod upgrading;
 
 pub use foot::Footing;
 pub use standing::{apart, one_to_one};
+pub use upgrading::{UpgradeEnd, upgrade};

@@ -1,11 +1,12 @@
 //! Telling whether pages are all different.
 
-ghost use Rattle.std.specs.Prelude.{◌<◌, [], ◌∷◌, IfSome};
+ghost use Rattle.std.specs.Prelude.{◌≡◌, ◌<◌, [], ◌∷◌, IfSome};
 ghost use Rattle.std.specs.Option.{option_to_list};
 ghost use Rattle.hv_limits.specs.Limits.{pages_limit};
 ghost use Rattle.hv_apart.specs.Added.{Added, Tells};
+ghost use Rattle.hv_apart.specs.Marked.{is_marked};
 
-use crate::bits::set;
+use crate::bits::{is_set, set};
 use hv_limits::PAGES;
 
 // A bit for each page.
@@ -45,5 +46,12 @@ impl Marks {
         if let Some(page) = page {
             self.add(page);
         }
+    }
+
+    /// Whether the page was added.
+    pub(crate) fn has(&self, page: u32) -> bool
+        ensures { result ≡ is_marked self.now.words page }
+    {
+        is_set(&self.words, page)
     }
 }

@@ -3,15 +3,15 @@
 ghost use Rattle.std.specs.Prelude.{◌≡◌, ◌≤◌, ◌^◌, ◌++◌, Some, length, map};
 ghost use Rattle.hv_word.specs.Storage.{page_count};
 ghost use Rattle.hv_store.specs.Access.{identity};
-ghost use Rattle.hv_map.specs.Apart.{blocks_of, directory_of, is_apart, is_one, open_pages, tables_along, tables_of};
+ghost use Rattle.hv_map.specs.Apart.{blocks_of, directory_of, is_apart, is_one, open_pages, standing_on, tables_along, tables_of};
 ghost use Rattle.hv_map.specs.Chain.{map_along, pin_of};
 ghost use Rattle.hv_map.specs.Links.{syllable_of};
-ghost use Rattle.hv_apart.specs.Added.{Added};
+ghost use Rattle.hv_apart.specs.Added.{Added, Tells};
 ghost use Rattle.hv_apart.specs.Table.{machine_of};
 
 use crate::marks::Marks;
-use crate::pages::{directory, prefix, read_at, table_page};
-use hv_map::{Chain, ChainItem};
+use crate::pages::{directory, prefix, table_page};
+use hv_map::{Chain, ChainItem, TableCache};
 use hv_store::Store;
 
 /// Whether the pages that the last machine of a chain can read lie in different bare pages. It takes no memory.
@@ -30,11 +30,19 @@ pub fn apart(store: &Store, chain: &Chain) -> bool
     requires { pin_of store.now (map syllable_of chain.now) ≡ Some chain.now }
     ensures { result ≡ is_apart store.now chain.now }
 {
+    standing_pages(store, chain).distinct
+}
+
+/// Those bare pages.
+pub(crate) fn standing_pages(store: &Store, chain: &Chain) -> Marks
+    requires { pin_of store.now (map syllable_of chain.now) ≡ Some chain.now }
+    ensures { Tells result (standing_on store.now chain.now) }
+{
     let mut marks = Marks::new();
     add_blocks(&mut marks, store, chain);
     add_tables(&mut marks, store, chain);
     add_pages(&mut marks, store, chain);
-    marks.distinct
+    marks
 }
 
 // The blocks of the machines on the chain.
@@ -65,9 +73,10 @@ fn add_tables_of(marks: &mut Marks, store: &Store, chain: &Chain, child: ChainIt
     ensures { Added marks.old marks.new (directory_of (map_along store.now chain.now) (machine_of child) ++ tables_of store.now (map_along store.now chain.now) (length chain.now) (machine_of child)) }
 {
     let _pages = store.pages();
-    marks.add_found(directory(store, chain, child));
+    let mut cache = TableCache::new();
+    marks.add_found(directory(&mut cache, store, chain, child));
     for k in 0..(child.pages + 1023) / 1024 {
-        marks.add_found(table_page(store, chain, child, 1024 * k));
+        marks.add_found(table_page(&mut cache, store, chain, child, 1024 * k));
     }
 }
 
@@ -76,7 +85,8 @@ fn add_pages(marks: &mut Marks, store: &Store, chain: &Chain)
     ensures { Added marks.old marks.new (open_pages (map_along store.now chain.now)) }
 {
     let _pages = store.pages();
+    let mut cache = TableCache::new();
     for page in 0..chain.pages(store) {
-        marks.add_found(read_at(store, chain, u64::from(page)));
+        marks.add_found(cache.read(store, chain, u64::from(page)));
     }
 }

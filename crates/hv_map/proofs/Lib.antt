@@ -1,6 +1,7 @@
 pub mod Adding
 pub mod Agree
 pub mod Assoc
+pub mod Caching
 pub mod Handed
 pub mod Holding
 pub mod Levels

@@ -10,5 +10,6 @@ pub mod Levels
 pub mod Links
 pub mod Gathered
 pub mod Seen
+pub mod Tables
 pub mod Trail
 pub mod Words

@@ -10,6 +10,7 @@ mod lookup;
 mod pages;
 mod path;
 mod pinning;
+mod tables;
 mod view;
 mod ways;
 
@@ -22,5 +23,6 @@ pub use lookup::{page_slot, resolve};
 pub use pages::{NOTED, Pages};
 pub use path::{Path, Watch};
 pub use pinning::{child_noting, pin, pin_noting};
+pub use tables::TableCache;
 pub use view::View;
 pub use ways::Trail;

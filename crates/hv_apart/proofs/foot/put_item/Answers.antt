@@ -15,9 +15,9 @@ returns c =
     let j = length c.args.chain.now in
     let x = machine_of c.args.child in
     let block = places_in 65 3 (c.args.child.block ∷ []) in
-    let found = places_in 0 (table_pages c.args.child.pages) (option_to_list c.directory.result) in
+    let found = places_in 0 (table_pages c.args.child.pages) (option_to_list c.directory-page.result) in
     let words = table_places S F j x c.args.child.pages in
     joined_more _ _ _ block (found ++ words) _ c.put_words.ensures
     (joined_more _ _ _ found words (found ++ words) c.put_words-2.ensures c.put_tables.ensures refl)
     (item-parts S F j c.args.child
-    ∙ ap (λ (gs : List ℕ). block ++ (places_in 0 (table_pages c.args.child.pages) gs ++ words)) (sym c.directory.ensures.page))
+    ∙ ap (λ (gs : List ℕ). block ++ (places_in 0 (table_pages c.args.child.pages) gs ++ words)) (sym c.directory-page.ensures.page))

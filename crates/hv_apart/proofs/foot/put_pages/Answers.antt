@@ -14,8 +14,10 @@ pub loop-page-preserved : goal.loop-page-preserved
 loop-page-preserved c =
     let F = map_along c.args.store.now c.args.chain.now in
     let i = c.loop-page.page in
-    let inside : i < length F = omega arith in
-    joined_more _ _ _ (page_foot (take i F)) (places_in 0 1024 (option_to_list c.read_at.result)) _ c.loop-page.invariant c.put_words.ensures
-    (page_foot-push F i inside
-    ∙ ap (λ (k : ℕ). page_foot (take i F) ++ places_in 0 1024 (open_page_if (reading F k))) (sym c.from.ensures)
-    ∙ ap (λ (gs : List ℕ). page_foot (take i F) ++ places_in 0 1024 gs) (sym c.read_at.ensures.page))
+    let inside : i < length F = omega arith in (
+      joined_more _ _ _ (page_foot (take i F)) (places_in 0 1024 (option_to_list c.read-host.result)) _ c.loop-page.invariant.0 c.put_page.ensures
+          (page_foot-push F i inside
+          ∙ ap (λ (k : ℕ). page_foot (take i F) ++ places_in 0 1024 (open_page_if (reading F k))) (sym c.from.ensures)
+          ∙ ap (λ (gs : List ℕ). page_foot (take i F) ++ places_in 0 1024 gs) (sym c.read-host.ensures.page)),
+      c.read-host.ensures.cache,
+    )

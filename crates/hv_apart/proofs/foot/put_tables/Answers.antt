@@ -1,18 +1,27 @@
--- The table word of the next page.
-use Rattle.std.proofs.Common.{ℕ, List, ◌++◌, ◌%◌, length, ap, sym, ◌∙◌}
+-- The table words in the next page of the table.
+use Rattle.std.proofs.Common.{◌≡◌, ℕ, ◌+◌, ◌*◌, ◌++◌, length, min, ap, ◌∙◌, arith}
 use Rattle.std.specs.Option.{option_to_list}
 use Rattle.hv_map.specs.Chain.{map_along}
 use Rattle.hv_apart.specs.Table.{machine_of, table_places, places_in}
 use Rattle.hv_apart.proofs.Joining.{joined_more}
-use Rattle.hv_apart.proofs.Feet.{table_places-push}
+use Rattle.hv_apart.proofs.Feet.{table_places-chunk}
 use Rattle.hv_apart.proofs.foot.put_tables.Goals as goal
 
-pub loop-i-preserved : goal.loop-i-preserved
-loop-i-preserved c =
+pub loop-k-preserved : goal.loop-k-preserved
+loop-k-preserved c =
     let S = c.args.store.now in
     let F = map_along S c.args.chain.now in
     let j = length c.args.chain.now in
     let x = machine_of c.args.child in
-    let i = c.loop-i.i in
-    joined_more _ _ _ (table_places S F j x i) (places_in (i % 1024) 1 (option_to_list c.table_page.result)) _ c.loop-i.invariant c.put_words.ensures
-    (table_places-push S F j x i ∙ ap (λ (gs : List ℕ). table_places S F j x i ++ places_in (i % 1024) 1 gs) (sym c.table_page.ensures.page))
+    let n = c.args.child.pages in
+    let k = c.loop-k.k in
+    let r = c.table_page-table.result in
+    let count = c.min.result in
+    let so_far : 1024 * k ≡ min n (1024 * k) = omega arith in
+    let more : min n (1024 * (k + 1)) ≡ 1024 * k + c.min.result = omega (arith, c.min.ensures) in (
+      joined_more _ _ _ (table_places S F j x (min n (1024 * k))) (places_in 0 count (option_to_list r)) _ c.loop-k.invariant.0 c.put_words.ensures
+          (ap (table_places S F j x) more
+          ∙ table_places-chunk S F j x k count r (omega (arith, c.min.ensures)) c.table_page-table.ensures.page
+          ∙ ap (λ (m : ℕ). table_places S F j x m ++ places_in 0 count (option_to_list r)) so_far),
+      c.table_page-table.ensures.cache,
+    )

@@ -12,8 +12,10 @@ pub loop-page-preserved : goal.loop-page-preserved
 loop-page-preserved c =
     let F = map_along c.args.store.now c.args.chain.now in
     let i = c.loop-page.page in
-    let inside : i < length F = omega arith in
-    added_more _ _ _ (open_pages (take i F)) (option_to_list c.read_at.result) _ c.loop-page.invariant c.add_found.ensures
-    (pages-push F i inside
-    ∙ ap (λ (k : ℕ). open_pages (take i F) ++ open_page_if (reading F k)) (sym c.from.ensures)
-    ∙ ap (λ (ys : List ℕ). open_pages (take i F) ++ ys) (sym c.read_at.ensures.page))
+    let inside : i < length F = omega arith in (
+      added_more _ _ _ (open_pages (take i F)) (option_to_list c.read.result) _ c.loop-page.invariant.0 c.add_found.ensures
+          (pages-push F i inside
+          ∙ ap (λ (k : ℕ). open_pages (take i F) ++ open_page_if (reading F k)) (sym c.from.ensures)
+          ∙ ap (λ (ys : List ℕ). open_pages (take i F) ++ ys) (sym c.read.ensures.page)),
+      c.read.ensures.cache,
+    )

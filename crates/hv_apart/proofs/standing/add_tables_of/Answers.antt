@@ -17,8 +17,10 @@ loop-k-preserved c =
     let x = machine_of c.args.child in
     let k = c.loop-k.k in
     let before = directory_of F x in
-    let some = first_tables S F j x k in
-    added_more _ _ _ (before ++ some) (option_to_list c.table_page.result) _ c.loop-k.invariant c.add_found-in-loop-k.ensures
-    (ap (λ (ys : List ℕ). before ++ ys) (tables-push S F j x k)
-    ∙ sym (append_assoc before some (table_open F (table_of S (reading F) j x.table x.version (1024 * k))))
-    ∙ ap (λ (ys : List ℕ). (before ++ some) ++ ys) (sym c.table_page.ensures.page))
+    let some = first_tables S F j x k in (
+      added_more _ _ _ (before ++ some) (option_to_list c.table_page.result) _ c.loop-k.invariant.0 c.add_found-in-loop-k.ensures
+          (ap (λ (ys : List ℕ). before ++ ys) (tables-push S F j x k)
+          ∙ sym (append_assoc before some (table_open F (table_of S (reading F) j x.table x.version (1024 * k))))
+          ∙ ap (λ (ys : List ℕ). (before ++ some) ++ ys) (sym c.table_page.ensures.page)),
+      c.table_page.ensures.cache,
+    )

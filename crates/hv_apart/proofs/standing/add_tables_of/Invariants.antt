@@ -1,6 +1,7 @@
 use Rattle.std.proofs.Common.{◌++◌, length}
 use Rattle.hv_map.specs.Apart.{directory_of}
 use Rattle.hv_map.specs.Chain.{map_along}
+use Rattle.hv_map.specs.Tables.{IsCacheOf}
 use Rattle.hv_apart.specs.Added.{Added}
 use Rattle.hv_apart.specs.Table.{machine_of, first_tables}
 use Rattle.hv_apart.proofs.standing.add_tables_of.Given as goal
@@ -10,3 +11,4 @@ invariant-loop-k l =
     Added l.fn.marks l.marks
     (directory_of (map_along l.store l.chain) (machine_of l.child)
     ++ first_tables l.store (map_along l.store l.chain) (length l.chain) (machine_of l.child) l.k)
+    × IsCacheOf l.store l.chain l.cache

@@ -29,10 +29,10 @@ refused_by : {A B : Type 0} (end : DirectiveEnd) (part : Result A BuildKind) (wh
 refused_by (Fault why) part whole f is = f why is
 refused_by Memory part whole f is = tt
 
--- A machine is known, under a name and in names as they are read; its chain is found, and the marks are read.
-module _ (b : Building) (name read : List ℕ) (names : List Known) (k : Known) (chain : Option (List Item)) (marks : List Mark) (is_known : Ok k ≡ known read names) (is_name : read ≡ name) (is_names : names ≡ b.names) (is_chain : chain ≡ pin_of b.storage k.path) (is_marks : marks ≡ b.marks) where
+-- A machine is known, in names as they are read; its chain is found, and the marks are read.
+module _ (b : Building) (name : List ℕ) (names : List Known) (k : Known) (chain : Option (List Item)) (marks : List Mark) (is_known : Ok k ≡ known name names) (is_names : names ≡ b.names) (is_chain : chain ≡ pin_of b.storage k.path) (is_marks : marks ≡ b.marks) where
   known_here : known name b.names ≡ Ok k
-  known_here = ap (λ (n : List ℕ). known n b.names) (sym is_name) ∙ ap (known read) (sym is_names) ∙ sym is_known
+  known_here = ap (known name) (sym is_names) ∙ sym is_known
 
   -- the places as they are found, and as they are defined
   same_places : (free : Bool) (first n m : ℕ) → m ≡ n → each_from (place_by (found_by b.storage b.marks (pin_of b.storage k.path) k.pages free)) first n ≡ each_from (place_by (found_by b.storage marks chain k.pages free)) first m

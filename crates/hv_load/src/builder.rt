@@ -155,7 +155,7 @@ impl Builder {
         requires which { (which ≡ Pass) ⊎ (which ≡ Forward) }
         ensures { Leaves result self.new (towered_of self.old line depth pages which) }
     {
-        if self.towered || named(b"top", self.names.as_slice()).is_some() {
+        if self.towered || named(&name(b"top"), self.names.as_slice()).is_some() {
             return Err(BuildKind::Repeat)?;
         }
         let parts = tower(alloc, depth, pages, which, line)?;
@@ -238,7 +238,7 @@ impl Builder {
         if self.machines >= JOB_MACHINES {
             return Err(BuildKind::Many)?;
         }
-        let parent = known(parent.as_slice(), self.names.as_slice())?;
+        let parent = known(parent, self.names.as_slice())?;
         self.make(alloc, name, &parent, layout)
     }
 
@@ -257,7 +257,7 @@ impl Builder {
         if parent.path.len() >= DEPTH as u32 {
             return Err(BuildKind::Depth)?;
         }
-        if named(name.as_slice(), self.names.as_slice()).is_some() {
+        if named(name, self.names.as_slice()).is_some() {
             return Err(BuildKind::Repeat)?;
         }
         if layout.is_outside(parent.pages) {
@@ -285,7 +285,7 @@ impl Builder {
         requires { page < 2 ^ 20 }
         ensures { Leaves result self.new (mapped_of self.old name.now page entry) }
     {
-        let machine = known_inside(name.as_slice(), self.names.as_slice())?;
+        let machine = known_inside(name, self.names.as_slice())?;
         if page >= machine.pages {
             return Err(BuildKind::Outside)?;
         }
@@ -298,7 +298,7 @@ impl Builder {
     pub(crate) fn start(&mut self, name: &Name, pc: u32) -> Result<(), DirectiveEnd>
         ensures { Leaves result self.new (started_of self.old name.now pc) }
     {
-        let machine = known_inside(name.as_slice(), self.names.as_slice())?;
+        let machine = known_inside(name, self.names.as_slice())?;
         let host = block_of(&self.store, &machine.path)?;
         let at = place(&self.store, host, 0);
         self.store.put(at, pc);
@@ -315,7 +315,7 @@ impl Builder {
     ) -> Result<(), DirectiveEnd>
         ensures { Leaves result self.new (words_of self.old name.now at values.now) }
     {
-        let machine = known(name.as_slice(), self.names.as_slice())?;
+        let machine = known(name, self.names.as_slice())?;
         let finding = Finding {
             store: &self.store,
             marks: self.marks.as_slice(),
@@ -337,7 +337,7 @@ impl Builder {
     ) -> Result<(), DirectiveEnd>
         ensures { Leaves result self.new (image_done self.old name.now image.now) }
     {
-        let machine = known(name.as_slice(), self.names.as_slice())?;
+        let machine = known(name, self.names.as_slice())?;
         let words = image.words.as_slice();
         let finding = Finding {
             store: &self.store,
@@ -357,7 +357,7 @@ impl Builder {
         ensures { Leaves result self.new (watch_of self.old line hart name.now) }
     {
         self.event(hart)?;
-        let machine = known(name.as_slice(), self.names.as_slice())?;
+        let machine = known(name, self.names.as_slice())?;
         if machine.path.as_slice().is_empty() && self.harts.count() > 1 {
             return Err(BuildKind::Watch)?;
         }
@@ -373,7 +373,7 @@ impl Builder {
     pub(crate) fn dump(&mut self, name: &Name, page: u32) -> Result<(), DirectiveEnd>
         ensures { Leaves result self.new (dump_of self.old name.now page) }
     {
-        let machine = known(name.as_slice(), self.names.as_slice())?;
+        let machine = known(name, self.names.as_slice())?;
         self.dumps.push(Dump {
             name: name.copied(),
             path: machine.path.copied(),
@@ -387,7 +387,7 @@ impl Builder {
         requires { depth ≤ depth_limit }
         ensures { Leaves result self.new (top_of self.old depth) }
     {
-        let machine = known(level_name(depth).as_slice(), self.names.as_slice())?;
+        let machine = known(&level_name(depth), self.names.as_slice())?;
         self.names.push(Entry {
             name: name(b"top"),
             path: machine.path.copied(),
@@ -431,7 +431,7 @@ impl Builder {
             | DebugCommand::Regs { name }
             | DebugCommand::Mem { name, .. }
             | DebugCommand::Map { name, .. } => {
-                known(name.as_slice(), self.names.as_slice())?;
+                known(name, self.names.as_slice())?;
                 Ok(())
             }
             DebugCommand::Path { hart } => {

@@ -5,6 +5,7 @@ ghost use Rattle.hv_load.specs.Building.{known as known_of, known_inside as know
 ghost use Rattle.hv_load.specs.Pages.{outer as outer_of};
 ghost use Rattle.hv_limits.specs.Limits.{depth_limit};
 ghost use Rattle.std.specs.Option.{option_copied};
+ghost use Rattle.std.specs.Str.{bytes_eq};
 
 use crate::ends::BuildKind;
 use hv_job::Name;
@@ -103,15 +104,29 @@ impl<T: Drop> From<AllocFailed<T>> for DirectiveEnd {
     }
 }
 
+// Whether two names are the same. Behind its letters a name has zeros alone, so all of its bytes can be compared.
+fn are_same(name: &Name, other: &Name) -> bool
+    ensures { result ≡ bytes_eq name.now other.now }
+{
+    are_equal(name.letters, other.letters) && name.len == other.len
+}
+
+// Whether the bytes of two names are the same, compared all at once as a number.
+fn are_equal(letters: [u8; 16], others: [u8; 16]) -> bool
+    ensures { result ≡ bytes_eq letters others }
+{
+    u128::from_le_bytes(letters) == u128::from_le_bytes(others)
+}
+
 /// The first machine of this name.
-pub(crate) fn named<'a>(name: &[u8], names: &'a [Entry]) -> Option<&'a Entry>
+pub(crate) fn named<'a>(name: &Name, names: &'a [Entry]) -> Option<&'a Entry>
     ensures { option_copied result ≡ named_in name.now names.now }
 {
-    names.iter().find(|entry| entry.name.is(name))
+    names.iter().find(|entry| are_same(&entry.name, name))
 }
 
 /// The same where there must be one.
-pub(crate) fn known(name: &[u8], names: &[Entry]) -> Result<Entry, BuildKind>
+pub(crate) fn known(name: &Name, names: &[Entry]) -> Result<Entry, BuildKind>
     ensures { result ≡ known_of name.now names.now }
 {
     match named(name, names) {
@@ -121,7 +136,7 @@ pub(crate) fn known(name: &[u8], names: &[Entry]) -> Result<Entry, BuildKind>
 }
 
 /// The same where it must lie in another machine.
-pub(crate) fn known_inside(name: &[u8], names: &[Entry]) -> Result<Entry, BuildKind>
+pub(crate) fn known_inside(name: &Name, names: &[Entry]) -> Result<Entry, BuildKind>
     ensures known { result ≡ known_inside_of name.now names.now }
     ensures deep { IfOk result (λ k. 1 ≤ length k.path) }
 {

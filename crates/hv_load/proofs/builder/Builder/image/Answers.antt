@@ -27,9 +27,9 @@ returns-in_err-places c =
     (subst
     (λ (b : Building). Refuses c.in_err-places.field-0.0 (image_of b c.args.name.now c.args.image.now))
     c.self.view_is
-    (image_refused b c.args.name.now c.as_slice.result.now c.as_slice-2.result.now k c.pin.result c.as_slice-3.result.now
+    (image_refused b c.args.name.now c.as_slice.result.now k c.pin.result c.as_slice-2.result.now
     (ap (λ (k : Known). let r : Result Known BuildKind = Ok k in r) c.machine.view_is ∙ c.in_ok-machine.ensures)
-    c.as_slice.ensures.letters c.as_slice-2.ensures.value c.pin.ensures c.as_slice-3.ensures.value
+    c.as_slice.ensures.value c.pin.ensures c.as_slice-2.ensures.value
     c.args.image.now _ c.in_err-places.field-0.0 (ap length c.as_slice-words.ensures) c.in_err-places.ensures.places))
 
 pub returns : goal.returns
@@ -46,9 +46,9 @@ returns c =
     } in
     let k : Known = record { name = c.machine.inside.name; path = c.machine.inside.path; pages = c.machine.inside.pages } in
     ap (λ (b : Building). image_of b c.args.name.now c.args.image.now) (sym c.self.view_is)
-    ∙ image_done b c.args.name.now c.as_slice.result.now c.as_slice-2.result.now k c.pin.result c.as_slice-3.result.now
+    ∙ image_done b c.args.name.now c.as_slice.result.now k c.pin.result c.as_slice-2.result.now
     (ap (λ (k : Known). let r : Result Known BuildKind = Ok k in r) c.machine.view_is ∙ c.in_ok-machine.ensures)
-    c.as_slice.ensures.letters c.as_slice-2.ensures.value c.pin.ensures c.as_slice-3.ensures.value
+    c.as_slice.ensures.value c.pin.ensures c.as_slice-2.ensures.value
     c.args.image.now _ c.in_ok-places.places.items c.as_slice-words.result.now c.put_values.new.store c.mark_image.new.marks.items (ap length c.as_slice-words.ensures) c.as_slice-words.ensures c.in_ok-places.ensures.places
-    (c.put_values.ensures.values ∙ ap (λ (ps : List ℕ). with_values c.self.inside.store ps c.as_slice-words.result.now) c.as_slice-4.ensures.value)
-    (c.mark_image.ensures.marks ∙ ap (λ (ps : List ℕ). marked Image (map page_at ps) c.self.inside.marks.items) c.as_slice-5.ensures.value)
+    (c.put_values.ensures.values ∙ ap (λ (ps : List ℕ). with_values c.self.inside.store ps c.as_slice-words.result.now) c.as_slice-3.ensures.value)
+    (c.mark_image.ensures.marks ∙ ap (λ (ps : List ℕ). marked Image (map page_at ps) c.self.inside.marks.items) c.as_slice-4.ensures.value)

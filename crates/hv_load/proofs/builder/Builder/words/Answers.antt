@@ -26,9 +26,9 @@ returns-in_err-places c =
     (subst
     (λ (b : Building). Refuses c.in_err-places.field-0.0 (words_of b c.args.name.now c.args.at c.args.values.now))
     c.self.view_is
-    (words_refused b c.args.name.now c.as_slice.result.now c.as_slice-2.result.now k c.pin.result c.as_slice-3.result.now
+    (words_refused b c.args.name.now c.as_slice.result.now k c.pin.result c.as_slice-2.result.now
     (ap (λ (k : Known). let r : Result Known BuildKind = Ok k in r) c.machine.view_is ∙ c.in_ok-machine.ensures)
-    c.as_slice.ensures.letters c.as_slice-2.ensures.value c.pin.ensures c.as_slice-3.ensures.value
+    c.as_slice.ensures.value c.pin.ensures c.as_slice-2.ensures.value
     c.args.at _ c.args.values.now c.in_err-places.field-0.0 refl c.in_err-places.ensures.places))
 
 pub returns : goal.returns
@@ -45,8 +45,8 @@ returns c =
     } in
     let k : Known = record { name = c.machine.inside.name; path = c.machine.inside.path; pages = c.machine.inside.pages } in
     ap (λ (b : Building). words_of b c.args.name.now c.args.at c.args.values.now) (sym c.self.view_is)
-    ∙ words_done b c.args.name.now c.as_slice.result.now c.as_slice-2.result.now k c.pin.result c.as_slice-3.result.now
+    ∙ words_done b c.args.name.now c.as_slice.result.now k c.pin.result c.as_slice-2.result.now
     (ap (λ (k : Known). let r : Result Known BuildKind = Ok k in r) c.machine.view_is ∙ c.in_ok-machine.ensures)
-    c.as_slice.ensures.letters c.as_slice-2.ensures.value c.pin.ensures c.as_slice-3.ensures.value
+    c.as_slice.ensures.value c.pin.ensures c.as_slice-2.ensures.value
     c.args.at _ c.args.values.now c.in_ok-places.places.items c.put_values.new.store refl c.in_ok-places.ensures.places
-    (c.put_values.ensures.values ∙ ap (λ (ps : List ℕ). with_values c.self.inside.store ps c.args.values.now) c.as_slice-4.ensures.value)
+    (c.put_values.ensures.values ∙ ap (λ (ps : List ℕ). with_values c.self.inside.store ps c.args.values.now) c.as_slice-3.ensures.value)

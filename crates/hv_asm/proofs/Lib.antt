@@ -3,6 +3,7 @@ pub mod Naming
 pub mod Grouping
 pub mod Rising
 pub mod Pushing
+pub mod Sorting
 pub mod Placing
 pub mod Telling
 pub mod Written

@@ -1,6 +1,7 @@
 -- What `assemble` answers, beside the words of the text.
 use Rattle.std.specs.Prelude.{ℕ, ◌≡◌, List, Result, Ok, Err, Vec}
 use Rattle.std.specs.declared.alloc.Global.{Global}
+use Rattle.hv_asm.specs.Emitted.{with_front}
 use Rattle.hv_asm.specs.declared.AsmEnd.{AsmEnd}
 use Rattle.hv_asm.specs.declared.AsmEnd.TheVariants.{AsmFault, Memory}
 use Rattle.hv_asm.specs.declared.AsmKind.{AsmKind}
@@ -27,3 +28,9 @@ GivesImage base (Err end) text = Refuses end text
 abbrev pub ended : EmitEnd → ℕ → AsmEnd
 ended (line.Fault kind) number = AsmFault number kind
 ended line.Memory number = Memory
+
+-- the words of the line of this number were appended, or their fault is the answer; memory may be wanting
+abbrev pub AppendsLine : Result ℕ AsmEnd → (number : ℕ) → Result (List ℕ) AsmKind → (old new : List ℕ) → Type 0
+AppendsLine (Ok size) number words old new = with_front old words ≡ Ok new
+AppendsLine (Err (AsmFault line kind)) number words old new = (line ≡ number) × (words ≡ Err kind)
+AppendsLine (Err Memory) number words old new = Unit {0}

@@ -1,15 +1,13 @@
 -- Labels, by their names.
 use Rattle.std.specs.Prelude.{ℕ, List, Option, Some, None, if◌then◌else◌}
 use Rattle.std.specs.Str.{bytes_eq}
-use Rattle.std.specs.Ordering.{nat_cmp}
-use Rattle.std.specs.BTreeMap.{get_by}
-use Rattle.std.specs.Cmp.Lexicographic.{slice_cmp}
+use Rattle.hv_asm.specs.Definitions.{place_among}
 use Rattle.hv_asm.specs.declared.labels.Labels.{Labels}
 use Rattle.hv_asm.specs.declared.labels.Place.{Place}
 
 -- where a label stands
-abbrev pub place_in : Labels → List ℕ → Option Place
-place_in labels name = get_by (λ key. slice_cmp nat_cmp name key.now) labels.places
+unfoldable pub place_in : Labels → List ℕ → Option Place
+place_in labels name = place_among labels.definitions.items name
 
 -- a place in front of another
 abbrev pub first_of : Option Place → Option Place → Option Place

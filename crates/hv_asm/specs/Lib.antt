@@ -4,10 +4,13 @@ pub mod Forms
 pub mod Names
 pub mod Operands
 pub mod Rows
+pub mod Heads
+pub mod Definitions
 pub mod Labels
 pub mod Words
 pub mod Emitted
 pub mod Assembly
+pub mod Outlines
 pub mod Seen
 pub mod Answer
 pub mod Kinds

@@ -1,5 +1,5 @@
 -- What the operands of a line say, and the words that its operation makes of them.
-use Rattle.std.specs.Prelude.{ℕ, ◌≡◌, ◌⊎◌, ◌+◌, ◌-◌, ◌*◌, ◌%◌, ◌^◌, ◌<◌, ◌≤◌, ℤ, pos, ◌-ℤ◌, List, [], ◌∷◌, length, replicate, fold, Option, Some}
+use Rattle.std.specs.Prelude.{ℕ, ◌≡◌, ◌⊎◌, ◌+◌, ◌*◌, ◌%◌, ◌^◌, ◌<◌, ◌≤◌, ℤ, pos, ◌-ℤ◌, List, [], ◌∷◌, length, replicate, fold, Option, Some}
 use Rattle.std.specs.List.{AllZip}
 use Rattle.hv_word.specs.Words.{signed_of}
 use Rattle.hv_isa.specs.Csrs.{csr_number_of}

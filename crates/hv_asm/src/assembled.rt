@@ -1,6 +1,6 @@
 //! The lines of a text, one after another.
 
-ghost use Rattle.std.specs.Prelude.{◌≡◌, ◌+◌, ◌<◌};
+ghost use Rattle.std.specs.Prelude.{◌≡◌, ◌+◌, ◌<◌, true, false};
 ghost use Rattle.hv_asm.specs.Assembly.{has_room as has_room_of, line_words, repeats as repeats_of, worked_words};
 ghost use Rattle.hv_asm.specs.Emitted.{Appends};
 ghost use Rattle.hv_asm.specs.Labels.{place_in};
@@ -32,8 +32,13 @@ fn has_room(base: u32, end: u64) -> bool
 }
 
 fn repeats(labels: &Labels, number: u32, line: &[u8], label: Option<Token>) -> bool
+    requires { labels.now.distinct ≡ true
+        → repeats_of (place_in labels.now) number (option_map (text_of line.now) label) ≡ false }
     ensures { result ≡ repeats_of (place_in labels.now) number (option_map (text_of line.now) label) }
 {
+    if labels.distinct {
+        return false;
+    }
     let Some(label) = label else {
         return false;
     };
@@ -79,7 +84,9 @@ pub(crate) fn push_line(
     line: &[u8],
     read: &Line,
 ) -> Result<(), EmitEnd>
-    requires { extent.end ≡ extent.at + size_of (deed_in read.now.body) }
+    requires end { extent.end ≡ extent.at + size_of (deed_in read.now.body) }
+    requires distinct { labels.now.distinct ≡ true
+        → repeats_of (place_in labels.now) extent.number (reading_in line.now read.now).label ≡ false }
     ensures { Appends result
         (line_words (place_in labels.now) extent.base extent.number extent.at line.now (reading_in line.now read.now))
         out.old.items out.new.items }

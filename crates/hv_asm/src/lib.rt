@@ -1,17 +1,21 @@
 //! The assembler: the words of a text of assembly.
 #![tactic(auto)]
 
-ghost use Rattle.std.specs.Prelude.{◌≡◌, ◌+◌, ◌%◌, ◌<◌, ◌^◌, length};
-ghost use Rattle.hv_asm.specs.Answer.{GivesImage, GivesWords, ended};
-ghost use Rattle.hv_asm.specs.Assembly.{asm_of, words_from};
+ghost use Rattle.std.specs.Prelude.{◌≡◌, ℕ, ◌+◌, ◌*◌, ◌%◌, ◌<◌, ◌≤◌, ◌^◌, List, ◌∷◌, true, false, length, IfOk};
+ghost use Rattle.hv_asm.specs.Answer.{AppendsLine, GivesImage, GivesWords, ended};
+ghost use Rattle.hv_asm.specs.Assembly.{asm_of, line_words, repeats, words_from};
 ghost use Rattle.hv_asm.specs.Kinds.{asm_kind_text};
 ghost use Rattle.hv_asm.specs.Labels.{place_in};
+ghost use Rattle.hv_asm.specs.Limits.{space_limit};
+ghost use Rattle.hv_asm.specs.Operands.{Nothing, read_of, size_of};
+ghost use Rattle.hv_asm.specs.Outlines.{AreIdle, NoneRepeats};
 ghost use Rattle.hv_lex.specs.Lines.{lines_of};
 
 mod amounts;
 mod assembled;
 mod emits;
 mod forms;
+mod label_names;
 mod labels;
 pub mod laws;
 mod limits;
@@ -28,7 +32,7 @@ use hv_list::Items;
 use labels::Labels;
 pub use limits::{IMAGE_BYTES, SPACE_BYTES, asm_limits_are_kept};
 use lines::{read_line, size};
-use places::find_labels;
+use places::{Outline, find_outline};
 use std::alloc::{AllocError, Global};
 use std::fmt::{self, Display, Formatter};
 
@@ -114,47 +118,105 @@ pub fn assemble(alloc: Global, text: &[u8], base: u32) -> Result<Image, AsmEnd>
     requires length { length text.now + 1 < 2 ^ 32 }
     ensures { GivesImage base result (asm_of text.now base) }
 {
-    let labels = find_labels(alloc, text, base)?;
-    let words = assemble_lines(alloc, &labels, text, base)?;
+    let outline = find_outline(alloc, text, base)?;
+    let words = assemble_lines(alloc, &outline, text, base)?;
     Ok(Image {
         base,
         words: Items::new(words),
     })
 }
 
-// The words of the lines, with these labels.
+// The words of the lines of the text that was outlined. An idle line isn't read again where no label repeats another.
 fn assemble_lines(
     alloc: Global,
-    labels: &Labels,
+    outline: &Outline,
     text: &[u8],
     base: u32,
 ) -> Result<Vec<u32>, AsmEnd>
-    requires { length text.now + 1 < 2 ^ 32 }
-    ensures { GivesWords result (words_from (place_in labels.now) base 1 base (lines_of text.now)) }
+    requires length { length text.now + 1 < 2 ^ 32 }
+    requires distinct { outline.now.labels.distinct ≡ true
+        → NoneRepeats (place_in outline.now.labels) 1 (lines_of text.now) }
+    requires idle { AreIdle outline.now.idle.items (lines_of text.now) }
+    ensures { GivesWords result (words_from (place_in outline.now.labels) base 1 base (lines_of text.now)) }
 {
     let mut words = Vec::new(alloc);
     let mut rest = text;
+    let mut flags = outline.idle.as_slice();
     let mut number = 1;
     let mut at = u64::from(base);
     while !rest.is_empty() {
-        let (line, behind) = first_line(rest);
-        let read = read_line(alloc, line)?;
-        let end = at + size(&read.body);
-        let extent = Extent {
-            base,
+        let (bytes, behind) = first_line(rest);
+        let (idle, others) = first_flag(flags);
+        let line = TextLine {
+            bytes,
             number,
             at,
-            end,
+            idle,
         };
-        match push_line(&mut words, labels, extent, line, &read) {
-            Ok(()) => {}
-            Err(end) => return Err(at_line(end, number)),
-        }
-        at = end;
+        let size = assemble_line(alloc, &mut words, &outline.labels, base, line)?;
+        at += size;
         number += 1;
         rest = behind;
+        flags = others;
     }
     Ok(words)
+}
+
+// A line of a text: its number, its address, and whether it is known to be idle.
+#[derive(Clone, Copy)]
+struct TextLine<'a> {
+    bytes: &'a [u8],
+    number: u32,
+    at: u64,
+    idle: bool,
+}
+
+// Appends the words of a line, and gives its size.
+fn assemble_line(
+    alloc: Global,
+    words: &mut Vec<u32>,
+    labels: &Labels,
+    base: u32,
+    line: TextLine<'_>,
+) -> Result<u64, AsmEnd>
+    requires length { length line.bytes.now + 1 < 2 ^ 32 }
+    requires at { line.at < 2 ^ 63 }
+    requires distinct { labels.now.distinct ≡ true
+        → repeats (place_in labels.now) line.number (read_of line.bytes.now).label ≡ false }
+    requires idle { line.idle ≡ true → (read_of line.bytes.now).deed ≡ Nothing }
+    ensures words { AppendsLine result line.entry.number
+        (line_words (place_in labels.now) base line.entry.number line.entry.at line.entry.bytes.now
+        (read_of line.entry.bytes.now))
+        words.old.items words.new.items }
+    ensures size { IfOk result (λ size. size ≡ size_of (read_of line.entry.bytes.now).deed) }
+    ensures most { IfOk result (λ size. size ≤ space_limit + 4 * length line.entry.bytes.now) }
+{
+    if line.idle && labels.distinct {
+        return Ok(0);
+    }
+    let read = read_line(alloc, line.bytes)?;
+    let size = size(&read.body);
+    let extent = Extent {
+        base,
+        number: line.number,
+        at: line.at,
+        end: line.at + size,
+    };
+    match push_line(words, labels, extent, line.bytes, &read) {
+        Ok(()) => Ok(size),
+        Err(end) => Err(at_line(end, line.number)),
+    }
+}
+
+// The flag of the first line, and those of the lines behind. Where no flag is left, none is set.
+fn first_flag(flags: &[bool]) -> (bool, &[bool])
+    ensures { (line : List ℕ) (lines : List (List ℕ)) → AreIdle flags.now (line ∷ lines)
+        → (result.0 ≡ true → (read_of line).deed ≡ Nothing) × AreIdle result.1.now lines }
+{
+    match flags.split_first() {
+        Some((flag, behind)) => (*flag, behind),
+        None => (false, flags),
+    }
 }
 
 // The end of a text at a line.

@@ -17,7 +17,7 @@ use Rattle.hv_map.specs.Links.{chain_item}
 use Rattle.hv_map.specs.declared.chain.ChainItem.{ChainItem}
 use Rattle.hv_map.proofs.Caching.{table_open-same}
 use Rattle.hv_nest.specs.Watched.{places, item_foot, chain_foot, own_places, page_foot}
-use Rattle.hv_apart.specs.Table.{machine_of, table_places, places_in}
+use Rattle.hv_apart.specs.Table.{item_of_chain, table_places, places_in}
 use Rattle.hv_apart.proofs.Growing.{range-push, take-push, flat_map-push, pages-push}
 
 -- words of one page
@@ -99,9 +99,9 @@ table_places-chunk S F j x k (suc n) r h is =
 
 -- what one machine's map is read from
 pub item-parts : (S : List ℕ) (F : List Slot) (j : ℕ) (c : ChainItem)
-    → item_foot S F j (machine_of c)
+    → item_foot S F j (item_of_chain c)
     ≡ places_in 65 3 (c.block ∷ [])
-    ++ (places_in 0 (table_pages c.pages) (directory_of F (machine_of c)) ++ table_places S F j (machine_of c) c.pages)
+    ++ (places_in 0 (table_pages c.pages) (directory_of F (item_of_chain c)) ++ table_places S F j (item_of_chain c) c.pages)
 item-parts S F j c = refl
 
 -- and what that of one machine more is
@@ -122,7 +122,7 @@ pub chain_foot-more : (S : List ℕ) (items parent : List Item) (level : ℕ) (x
     → chain_item x ≡ c
     → parent ≡ take level items
     → chain_foot S (identity (page_count S)) 0 (take (level + 1) items)
-    ≡ chain_foot S (identity (page_count S)) 0 (take level items) ++ item_foot S (map_along S parent) (length parent) (machine_of c)
+    ≡ chain_foot S (identity (page_count S)) 0 (take level items) ++ item_foot S (map_along S parent) (length parent) (item_of_chain c)
 unfolding map_along
 chain_foot-more S items parent level x c is said there =
     let P = identity (page_count S) in
@@ -131,5 +131,5 @@ chain_foot-more S items parent level x c is said there =
     ap (chain_foot S P 0) (take-push Item items level x is)
     ∙ chain_foot-push S P 0 first x
     ∙ ap (λ (k : ℕ). chain_foot S P 0 first ++ item_foot S (along S P 0 first) k x) start
-    ∙ ap (λ (d : ChainItem). chain_foot S P 0 first ++ item_foot S (along S P 0 first) (length first) (machine_of d)) said
-    ∙ ap (λ (ps : List Item). chain_foot S P 0 first ++ item_foot S (along S P 0 ps) (length ps) (machine_of c)) (sym there)
+    ∙ ap (λ (d : ChainItem). chain_foot S P 0 first ++ item_foot S (along S P 0 first) (length first) (item_of_chain d)) said
+    ∙ ap (λ (ps : List Item). chain_foot S P 0 first ++ item_foot S (along S P 0 ps) (length ps) (item_of_chain c)) (sym there)

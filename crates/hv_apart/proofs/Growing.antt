@@ -15,7 +15,7 @@ use Rattle.hv_map.specs.Compose.{compose, reading, table_of}
 use Rattle.hv_map.specs.Item.{Item}
 use Rattle.hv_map.specs.Links.{chain_item}
 use Rattle.hv_map.specs.declared.chain.ChainItem.{ChainItem}
-use Rattle.hv_apart.specs.Table.{machine_of, first_tables}
+use Rattle.hv_apart.specs.Table.{item_of_chain, first_tables}
 
 -- one number more in a range
 pub range-push : (a n : ℕ) → range_with_len a (n + 1) ≡ range_with_len a n ++ (a + n) ∷ []
@@ -89,7 +89,7 @@ pub tables_along-more : (S : List ℕ) (items parent : List Item) (level : ℕ) 
     → parent ≡ take level items
     → tables_along S (identity (page_count S)) 0 (take (level + 1) items)
     ≡ tables_along S (identity (page_count S)) 0 (take level items)
-    ++ (directory_of (map_along S parent) (machine_of c) ++ tables_of S (map_along S parent) (length parent) (machine_of c))
+    ++ (directory_of (map_along S parent) (item_of_chain c) ++ tables_of S (map_along S parent) (length parent) (item_of_chain c))
 unfolding map_along
 tables_along-more S items parent level x c is said there =
     let P = identity (page_count S) in
@@ -98,8 +98,8 @@ tables_along-more S items parent level x c is said there =
     ap (tables_along S P 0) (take-push Item items level x is)
     ∙ tables_along-push S P 0 first x
     ∙ ap (λ (k : ℕ). tables_along S P 0 first ++ (directory_of (along S P 0 first) x ++ tables_of S (along S P 0 first) k x)) start
-    ∙ ap (λ (d : ChainItem). tables_along S P 0 first ++ (directory_of (along S P 0 first) (machine_of d) ++ tables_of S (along S P 0 first) (length first) (machine_of d))) said
-    ∙ ap (λ (ps : List Item). tables_along S P 0 first ++ (directory_of (along S P 0 ps) (machine_of c) ++ tables_of S (along S P 0 ps) (length ps) (machine_of c))) (sym there)
+    ∙ ap (λ (d : ChainItem). tables_along S P 0 first ++ (directory_of (along S P 0 first) (item_of_chain d) ++ tables_of S (along S P 0 first) (length first) (item_of_chain d))) said
+    ∙ ap (λ (ps : List Item). tables_along S P 0 first ++ (directory_of (along S P 0 ps) (item_of_chain c) ++ tables_of S (along S P 0 ps) (length ps) (item_of_chain c))) (sym there)
 
 -- a page that was found
 pub found_below : (r : Option ℕ) (P : ℕ) → P ≤ pages_limit → IfSome r (λ g. g < P) → IfSome r (λ g. g < pages_limit)

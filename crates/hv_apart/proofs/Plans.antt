@@ -1,5 +1,5 @@
 -- From the tests of an upgrade to its writes.
-use Rattle.std.proofs.Common.{◌≡◌, ◌≢◌, ℕ, suc, ◌+◌, ◌-◌, ◌<◌, ◌≤◌, ◌^◌, inl, inr, List, [], ◌∷◌, length, map, Option, Some, None, set, get_or, get_or-set_same, get_or-set_other, refl, ap, ◌∙◌, sym, subst, arith, slice_get, take}
+use Rattle.std.proofs.Common.{◌≡◌, ℕ, ◌+◌, ◌-◌, ◌<◌, inl, inr, List, length, map, Some, set, get_or, get_or-set_same, get_or-set_other, ap, ◌∙◌, sym, subst, arith, slice_get, take}
 use Rattle.std.specs.Prelude.{slice_index}
 use Rattle.std.specs.Option.{option_map}
 use Rattle.std.proofs.lemmas.Bool.{cases_eq}
@@ -11,9 +11,9 @@ use Rattle.hv_map.specs.Item.{Item}
 use Rattle.hv_map.specs.Links.{chain_item, syllable_of}
 use Rattle.hv_map.specs.declared.chain.ChainItem.{ChainItem}
 use Rattle.hv_map.proofs.Machines.{Fits, pinned_fits}
-use Rattle.hv_apart.specs.Plan.{FitsStore, IsPlanOf, IsReady}
-use Rattle.hv_apart.specs.Table.{machine_of}
-use Rattle.hv_apart.specs.Upgrade.{last_item, page_found, parent_map, rewritten, upgraded, with_directory, with_table, with_version, written_in}
+use Rattle.hv_apart.specs.Plan.{IsPlanned}
+use Rattle.hv_apart.specs.Table.{item_of_chain}
+use Rattle.hv_apart.specs.Upgrade.{last_item, page_found, parent_map, rewritten, upgraded, with_directory_words, with_version, written_in}
 use Rattle.hv_apart.specs.declared.upgrading.Plan.{Plan}
 use Rattle.hv_apart.proofs.Growing.{item_there}
 use Rattle.hv_apart.proofs.Rewriting.{table_alike}
@@ -31,13 +31,6 @@ found_more F t k host tables room before here m lt = elim (cases_eq m k) [
       ∙ ap (λ (g : ℕ). Some g) (sym (ap (λ (n : ℕ). get_or (set tables k host) n 0) e ∙ get_or-set_same tables k host 0 room))
   | inr ne ↦
       before m (omega (arith, ne)) ∙ ap (λ (g : ℕ). Some g) (sym (get_or-set_other tables k m host 0 ne))
-]
-
-pub within_more : (P k host : ℕ) (tables : List ℕ) → k < length tables → ((m : ℕ) → m < k → get_or tables m 0 < P) → host < P → (m : ℕ) → m < k + 1 → get_or (set tables k host) m 0 < P
-within_more P k host tables room before here m lt = elim (cases_eq m k) [
-  | inl e ↦
-      subst (λ (g : ℕ). g < P) (sym (ap (λ (n : ℕ). get_or (set tables k host) n 0) e ∙ get_or-set_same tables k host 0 room)) here
-  | inr ne ↦ subst (λ (g : ℕ). g < P) (sym (get_or-set_other tables k m host 0 ne)) (before m (omega (arith, ne)))
 ]
 
 -- the last machine of a chain of the store
@@ -66,7 +59,7 @@ pub parent_found : (S : List ℕ) (items parent : List Item) (n : ℕ) → n ≡
 parent_found S items parent n len is = ap (map_along S) is ∙ ap (λ (k : ℕ). map_along S (take (k - 1) items)) len
 
 -- what is written is what the machine is upgraded to
-pub written_out : (S : List ℕ) (items : List Item) (dir : ℕ) (p : Plan) → IsReady S items dir p → rewritten S (machine_of p.child) dir p.directory (slice_index p.tables) ≡ upgraded S items dir
+pub written_out : (S : List ℕ) (items : List Item) (dir : ℕ) (p : Plan) → IsPlanned S items dir p → rewritten S (item_of_chain p.child) dir p.directory (slice_index p.tables) ≡ upgraded S items dir
 unfolding rewritten
 written_out S items dir p ready =
     let x : Item = ready.item in
@@ -76,8 +69,8 @@ written_out S items dir p ready =
     in
     let d : ℕ = page_found (written_in F dir) in
     let same : p.directory ≡ d = sym (ap page_found ready.plan.directory) in
-    ap (λ (c : ChainItem). rewritten S (machine_of c) dir p.directory (slice_index p.tables)) (sym ready.said)
+    ap (λ (c : ChainItem). rewritten S (item_of_chain c) dir p.directory (slice_index p.tables)) (sym ready.said)
     ∙ ap (λ (g : ℕ). rewritten S x dir g (slice_index p.tables)) same
     ∙ ap (λ (U : List ℕ). with_version U x.block dir)
-    (table_alike (with_directory S d x.table (table_pages x.pages)) (slice_index p.tables) (λ k. page_found (written_in F (x.table + k))) x.pages (λ k lt. sym (ap page_found (found k lt))))
+    (table_alike (with_directory_words S d x.table (table_pages x.pages)) (slice_index p.tables) (λ k. page_found (written_in F (x.table + k))) x.pages (λ k lt. sym (ap page_found (found k lt))))
     ∙ sym (upgraded_last S items x dir ready.last)

@@ -3,14 +3,14 @@ use Rattle.std.proofs.Common.{◌≡◌, ◌≢◌, ℕ, zero, suc, ◌+◌, ◌
 use Rattle.std.specs.Prelude.{◌==◌, IsOk, MatchOption, nat_le, nat_lt}
 use Rattle.std.specs.List.{find, range_with_len}
 use Rattle.std.specs.Option.{is_none, option_and_then, option_map, option_or}
-use Rattle.std.proofs.lemmas.Bool.{eq-eqb, eqb-false, leb-false, le-leb, ltb-false, ne_eqb, or_parts}
+use Rattle.std.proofs.lemmas.Bool.{eq-eqb, eqb-false, leb-false, ltb-false, ne_eqb, or_parts}
 use Rattle.hv_word.specs.Words.{has}
 use Rattle.hv_store.specs.declared.access.Slot.{Slot}
 use Rattle.hv_map.specs.Apart.{is_apart, standing_on, table_pages}
 use Rattle.hv_map.specs.Item.{Item}
 use Rattle.hv_apart.specs.declared.upgrading.UpgradeEnd.{UpgradeEnd}
 use Rattle.hv_apart.specs.declared.upgrading.UpgradeEnd.TheVariants as end
-use Rattle.hv_apart.specs.Upgrade.{first_shut, is_outside, last_item, page_found, parent_map, refusal_in, refusal_of, stands_on, written_in}
+use Rattle.hv_apart.specs.Upgrade.{first_shut, last_item, leaves_parent, page_found, parent_map, stands_on, upgrade_refusal, upgrade_refusal_in, written_in}
 
 -- the first page of a range that a test passes
 find_first : (p : ℕ → Bool) (a n k : ℕ) → k < n → ((m : ℕ) → m < k → p (a + m) ≡ false) → p (a + k) ≡ true → find p (range_with_len a n) ≡ Some (a + k)
@@ -109,7 +109,7 @@ tests v w a b o q h k t u e f g m n = λ i. reason (e i) (f i) (g i) (m i) (n i)
 -- for the last machine x
 module _ (S : List ℕ) (items : List Item) (x : Item) (dir : ℕ) (last : last_item items ≡ Some x) where
   outside : Bool
-  outside = is_outside (length (parent_map S items)) x dir
+  outside = leaves_parent (length (parent_map S items)) x dir
 
   shut : Option ℕ
   shut = first_shut (parent_map S items) x dir
@@ -117,35 +117,35 @@ module _ (S : List ℕ) (items : List Item) (x : Item) (dir : ℕ) (last : last_
   taken : Bool
   taken = stands_on S items (written_in (parent_map S items) dir)
 
-  by_tests : refusal_of S items dir ≡ reason (x.version == 2) (is_apart S items) outside shut taken
+  by_tests : upgrade_refusal S items dir ≡ reason (x.version == 2) (is_apart S items) outside shut taken
   unfolding reason outside shut taken
-  by_tests = ap (option_and_then (λ (y : Item). refusal_in S items (parent_map S items) y dir)) last
+  by_tests = ap (option_and_then (λ (y : Item). upgrade_refusal_in S items (parent_map S items) y dir)) last
 
-  pub refused_version : x.version ≡ 2 → refusal_of S items dir ≡ Some end.Version
+  pub refused_version : x.version ≡ 2 → upgrade_refusal S items dir ≡ Some end.Version
   unfolding reason
   refused_version v = by_tests ∙ tests _ true _ _ _ _ _ _ _ _ (eq-eqb x.version 2 v) refl refl refl refl
 
-  pub refused_apart : x.version ≢ 2 → is_apart S items ≡ false → refusal_of S items dir ≡ Some end.Apart
+  pub refused_apart : x.version ≢ 2 → is_apart S items ≡ false → upgrade_refusal S items dir ≡ Some end.Apart
   unfolding reason
   refused_apart v a = by_tests ∙ tests _ false _ false _ _ _ _ _ _ (ne_eqb x.version 2 v) a refl refl refl
 
-  pub refused_outside : x.version ≢ 2 → is_apart S items ≡ true → is_outside (length (parent_map S items)) x dir ≡ true → refusal_of S items dir ≡ Some end.Outside
+  pub refused_outside : x.version ≢ 2 → is_apart S items ≡ true → leaves_parent (length (parent_map S items)) x dir ≡ true → upgrade_refusal S items dir ≡ Some end.Outside
   unfolding reason outside
   refused_outside v a o = by_tests ∙ tests _ false _ true _ true _ _ _ _ (ne_eqb x.version 2 v) a o refl refl
 
-  pub refused_shut : (u : ℕ) → x.version ≢ 2 → is_apart S items ≡ true → is_outside (length (parent_map S items)) x dir ≡ false → first_shut (parent_map S items) x dir ≡ Some u → refusal_of S items dir ≡ Some (end.Shut u)
+  pub refused_shut : (u : ℕ) → x.version ≢ 2 → is_apart S items ≡ true → leaves_parent (length (parent_map S items)) x dir ≡ false → first_shut (parent_map S items) x dir ≡ Some u → upgrade_refusal S items dir ≡ Some (end.Shut u)
   unfolding reason outside shut
   refused_shut u v a o h = by_tests ∙ tests _ false _ true _ false _ (Some u) _ _ (ne_eqb x.version 2 v) a o h refl
 
-  pub refused_overlap : x.version ≢ 2 → is_apart S items ≡ true → is_outside (length (parent_map S items)) x dir ≡ false → first_shut (parent_map S items) x dir ≡ None → stands_on S items (written_in (parent_map S items) dir) ≡ true → refusal_of S items dir ≡ Some end.Overlap
+  pub refused_overlap : x.version ≢ 2 → is_apart S items ≡ true → leaves_parent (length (parent_map S items)) x dir ≡ false → first_shut (parent_map S items) x dir ≡ None → stands_on S items (written_in (parent_map S items) dir) ≡ true → upgrade_refusal S items dir ≡ Some end.Overlap
   unfolding reason outside shut taken
   refused_overlap v a o h t = by_tests ∙ tests _ false _ true _ false _ None _ true (ne_eqb x.version 2 v) a o h t
 
-  pub not_refused : x.version ≢ 2 → is_apart S items ≡ true → is_outside (length (parent_map S items)) x dir ≡ false → first_shut (parent_map S items) x dir ≡ None → stands_on S items (written_in (parent_map S items) dir) ≡ false → refusal_of S items dir ≡ None
+  pub not_refused : x.version ≢ 2 → is_apart S items ≡ true → leaves_parent (length (parent_map S items)) x dir ≡ false → first_shut (parent_map S items) x dir ≡ None → stands_on S items (written_in (parent_map S items) dir) ≡ false → upgrade_refusal S items dir ≡ None
   unfolding reason outside shut taken
   not_refused v a o h t = by_tests ∙ tests _ false _ true _ false _ None _ false (ne_eqb x.version 2 v) a o h t
 
-  pub all_passed : refusal_of S items dir ≡ None → Passed (x.version == 2) (is_apart S items) (is_outside (length (parent_map S items)) x dir) (first_shut (parent_map S items) x dir) (stands_on S items (written_in (parent_map S items) dir))
+  pub all_passed : upgrade_refusal S items dir ≡ None → Passed (x.version == 2) (is_apart S items) (leaves_parent (length (parent_map S items)) x dir) (first_shut (parent_map S items) x dir) (stands_on S items (written_in (parent_map S items) dir))
   unfolding outside shut taken
   all_passed e = passed (x.version == 2) (is_apart S items) outside shut taken (sym by_tests ∙ e)
 
@@ -159,7 +159,7 @@ pub record IsUpgradable (S : List ℕ) (items : List Item) (F : List Slot) (x : 
   pub tables_written : (k : ℕ) → k < table_pages x.pages → written_in F (x.table + k) ≡ Some (page_found (written_in F (x.table + k)))
   pub free : has (page_found (written_in F dir)) (standing_on S items) ≡ false
 
-pub upgradable : (S : List ℕ) (items : List Item) (x : Item) (dir : ℕ) → last_item items ≡ Some x → refusal_of S items dir ≡ None → IsUpgradable S items (parent_map S items) x dir
+pub upgradable : (S : List ℕ) (items : List Item) (x : Item) (dir : ℕ) → last_item items ≡ Some x → upgrade_refusal S items dir ≡ None → IsUpgradable S items (parent_map S items) x dir
 upgradable S items x dir last e =
     let F = parent_map S items in
     let p = all_passed S items x dir last e in

@@ -1,33 +1,27 @@
 -- The machines on a path after an upgrade of the last one: all are where they were, and this one has the map that it had.
-use Rattle.std.proofs.Common.{◌≡◌, ◌≢◌, ℕ, zero, suc, ◌+◌, ◌-◌, ◌*◌, ◌/◌, ◌%◌, ◌^◌, ◌<◌, ◌≤◌, ◌⊎◌, inl, inr, Bool, true, false, cond, ◌&&◌, ◌||◌, List, [], ◌∷◌, ◌++◌, length, map, Option, Some, None, refl, ap, ◌∙◌, sym, subst, arith, slice_get}
+use Rattle.std.proofs.Common.{◌≡◌, ◌≢◌, ℕ, suc, ◌+◌, ◌*◌, ◌/◌, ◌%◌, ◌^◌, ◌<◌, ◌≤◌, Bool, true, false, cond, ◌&&◌, ◌||◌, List, [], ◌∷◌, ◌++◌, Option, Some, None, refl, ap, ◌∙◌, sym, subst, arith, slice_get}
 use Rattle.std.specs.Prelude.{◌==◌, nat_le, nat_lt}
-use Rattle.std.specs.Option.{option_map}
 use Rattle.std.proofs.Math.Dec.{lit<}
-use Rattle.std.proofs.lemmas.Bool.{and_from, and_parts, cases_Bool, eq-eqb, eqb-false, lt-ltb, ne_eqb}
-use Rattle.std.proofs.lemmas.List.{append-nil}
+use Rattle.std.proofs.lemmas.Bool.{and_from, and_parts, lt-ltb, ne_eqb}
 use Rattle.std.proofs.lemmas.Option.{same_Some}
 use Rattle.hv_word.specs.Words.{field_of, field_put, has}
-use Rattle.hv_word.specs.Storage.{page_count, word_at}
+use Rattle.hv_word.specs.Storage.{word_at}
 use Rattle.hv_store.specs.declared.access.Slot.{Slot}
 use Rattle.hv_store.specs.declared.access.Way.{Way}
 use Rattle.hv_store.specs.declared.access.Way.TheVariants.{Open, Shut}
-use Rattle.hv_store.specs.Access.{identity}
-use Rattle.hv_block.specs.Block.{Contents, block_of, contents_at, fits_hart, fits_pages, fits_size, is_block, pages_at, regs_at, table_at, version_at}
+use Rattle.hv_block.specs.Block.{Contents, block_of, contents_at, fits_hart, fits_pages, fits_size, regs_at, table_at, version_at}
 use Rattle.hv_block.proofs.Blocks.{block_alike, block_holds}
 use Rattle.hv_map.specs.Apart.{blocks_of, directory_of, table_pages, tables_along, tables_of}
-use Rattle.hv_map.specs.Chain.{along, child_at, child_of, child_through, child_with, machines, map_along, map_of, pin_of}
-use Rattle.hv_map.specs.Compose.{Looked, Named, Stopped, compose, compose_slot, entry_of, every, granted, look, no_fetch, no_write, page_named, present, reading, slot_of, slot_through, table_of, word_in}
+use Rattle.hv_map.specs.Chain.{along, child_at, child_of, child_through, child_with, machines}
+use Rattle.hv_map.specs.Compose.{Named, Stopped, compose, compose_slot, entry_of, look, no_fetch, no_write, page_named, present, reading, slot_of, slot_through, table_of, word_in}
 use Rattle.hv_map.specs.Item.{Item}
 use Rattle.hv_map.proofs.Agree.{composed_agrees, map_range_alike}
 use Rattle.hv_map.proofs.Assoc.{begins_from, begins_with}
-use Rattle.hv_map.proofs.Machines.{Fits, pinned_fits, pinned_own}
 use Rattle.hv_map.proofs.Rows.{table_plain}
-use Rattle.hv_map.proofs.Slots.{along-snoc, length-composed}
 use Rattle.hv_map.proofs.Words.{follows, machines_chained}
-use Rattle.hv_apart.specs.Upgrade.{IsListed, IsUpgraded, Stays, directory_word, fetchable, last_item, outer_items, page_found, parent_map, refusal_of, upgraded, upgraded_in, written_in}
+use Rattle.hv_apart.specs.Upgrade.{directory_word, with_fetch}
 use Rattle.hv_apart.proofs.Members.{has_left, has_one, has_right}
-use Rattle.hv_apart.proofs.Stood.{StandsAlone, each_table_word, stands_on_block, stands_on_table}
-use Rattle.hv_apart.proofs.Upgraded.{Upgrading, is_upgraded, maps_below, maps_same, upgraded_last, upgrading, written_reads}
+use Rattle.hv_apart.proofs.Stood.{each_table_word}
 
 -- the registers in a block go by its words 0 to 48 and 64
 module _ (S T : List ℕ) (g : ℕ) (same : (w : ℕ) → w < 65 → word_at S g w ≡ word_at T g w) where
@@ -249,10 +243,10 @@ module _ (F : List Slot) (j v i e : ℕ) (plain : v ≢ 2) where
       ap (λ (q : ℕ). slot_through j 2 i (field_put e 2 1 1) (slice_get F q)) (marked_page e)
       ∙ through_marked (slice_get F (field_of e 12 20))
 
-  pub slot_marked : slot_of F j 2 i (present j i (fetchable e)) ≡ slot_of F j v i (present j i e)
+  pub slot_marked : slot_of F j 2 i (present j i (with_fetch e)) ≡ slot_of F j v i (present j i e)
   slot_marked = go (e % 2 == 0) refl
     where
-      go : (b : Bool) → (e % 2 == 0) ≡ b → slot_of F j 2 i (present j i (fetchable e)) ≡ slot_of F j v i (present j i e)
+      go : (b : Bool) → (e % 2 == 0) ≡ b → slot_of F j 2 i (present j i (with_fetch e)) ≡ slot_of F j v i (present j i e)
       go true is =
           ap (λ (b : Bool). slot_of F j 2 i (present j i (cond b e (field_put e 2 1 1)))) is
           ∙ ap (λ (b : Bool). slot_of F j 2 i (cond b (Stopped (Shut j 1 i None)) (Named e))) is
@@ -274,13 +268,13 @@ directory_names T j i t c k word is lt low =
     ∙ ap (λ (q : ℕ). Named q) page
 
 -- the map of the upgraded machine, where its parent has the same map in both storages
-module _ (S T : List ℕ) (F : List Slot) (j : ℕ) (x : Item) (dir d : ℕ) (table : ℕ → ℕ) (plain : x.version ≢ 2) (sized : x.pages ≤ 2 ^ 20) (inside : x.table + table_pages x.pages ≤ 2 ^ 20) (directory : reading F dir ≡ Some (Open d)) (tables : (k : ℕ) → k < table_pages x.pages → reading F (x.table + k) ≡ Some (Open (table k))) (named : (w : ℕ) → w < 1024 → word_at T d w ≡ directory_word x.table (table_pages x.pages) w) (marked : (i : ℕ) → i < x.pages → word_at T (table (i / 1024)) (i % 1024) ≡ fetchable (word_at S (table (i / 1024)) (i % 1024))) where
+module _ (S T : List ℕ) (F : List Slot) (j : ℕ) (x : Item) (dir d : ℕ) (table : ℕ → ℕ) (plain : x.version ≢ 2) (sized : x.pages ≤ 2 ^ 20) (inside : x.table + table_pages x.pages ≤ 2 ^ 20) (directory : reading F dir ≡ Some (Open d)) (tables : (k : ℕ) → k < table_pages x.pages → reading F (x.table + k) ≡ Some (Open (table k))) (named : (w : ℕ) → w < 1024 → word_at T d w ≡ directory_word x.table (table_pages x.pages) w) (marked : (i : ℕ) → i < x.pages → word_at T (table (i / 1024)) (i % 1024) ≡ with_fetch (word_at S (table (i / 1024)) (i % 1024))) where
   entry_before : (i : ℕ) → i < x.pages → entry_of S (reading F) j x.table x.version i ≡ present j i (word_at S (table (i / 1024)) (i % 1024))
   entry_before i lt =
       ap (word_in S (reading F) j i) (table_plain S (reading F) j x.table x.version i plain)
       ∙ ap (look S j i (i % 1024)) (tables (i / 1024) (omega arith))
 
-  entry_after : (i : ℕ) → i < x.pages → entry_of T (reading F) j dir 2 i ≡ present j i (fetchable (word_at S (table (i / 1024)) (i % 1024)))
+  entry_after : (i : ℕ) → i < x.pages → entry_of T (reading F) j dir 2 i ≡ present j i (with_fetch (word_at S (table (i / 1024)) (i % 1024)))
   entry_after i lt =
       let low : i / 1024 < 1024 = omega (arith, lt, sized) in
       let page : i / 1024 < table_pages x.pages = omega arith in

@@ -10,7 +10,7 @@ use Rattle.hv_block.proofs.Edits.{sets-snoc}
 use Rattle.hv_block.proofs.Words.{sets_at, sets_outside}
 use Rattle.hv_map.specs.Apart.{table_pages}
 use Rattle.hv_map.specs.Item.{Item}
-use Rattle.hv_apart.specs.Upgrade.{directory_word, fetchable, rewritten, with_directory, with_fetchable, with_table, with_version}
+use Rattle.hv_apart.specs.Upgrade.{directory_word, rewritten, with_directory_words, with_fetch, with_fetch_at, with_fetchable_table, with_version}
 
 -- words that a function gives, written one after another, and those beside them
 run_other : (n : ℕ) (S : List ℕ) (at : ℕ) (f : ℕ → ℕ) (q : ℕ) → (q < at) ⊎ (at + n ≤ q) → get_or (sets S at (map f (range_with_len 0 n))) q 0 ≡ get_or S q 0
@@ -44,25 +44,25 @@ pub length_put : (S T l : List ℕ) (i v : ℕ) → T ≡ set S i v → length S
 length_put S T l i v put len = ap length put ∙ length-set S i v ∙ len
 
 -- the directory
-pub directory_written : (n : ℕ) (S T : List ℕ) (d t c : ℕ) → n ≡ 1024 → T ≡ sets S (1024 * d) (map (directory_word t c) (range_with_len 0 n)) → T ≡ with_directory S d t c
-unfolding with_directory
+pub directory_written : (n : ℕ) (S T : List ℕ) (d t c : ℕ) → n ≡ 1024 → T ≡ sets S (1024 * d) (map (directory_word t c) (range_with_len 0 n)) → T ≡ with_directory_words S d t c
+unfolding with_directory_words
 directory_written n S T d t c is written =
     written ∙ ap (λ (k : ℕ). sets S (1024 * d) (map (directory_word t c) (range_with_len 0 k))) is
 
-pub length-with_directory : (S : List ℕ) (d t c : ℕ) → length (with_directory S d t c) ≡ length S
-unfolding with_directory
-length-with_directory S d t c = length-sets S (1024 * d) (map (directory_word t c) (range_with_len 0 1024))
+pub length-with_directory_words : (S : List ℕ) (d t c : ℕ) → length (with_directory_words S d t c) ≡ length S
+unfolding with_directory_words
+length-with_directory_words S d t c = length-sets S (1024 * d) (map (directory_word t c) (range_with_len 0 1024))
 
 -- its words, and those of other pages
-pub directory_at : (S : List ℕ) (d t c w : ℕ) → 1024 * d + 1024 ≤ length S → w < 1024 → word_at (with_directory S d t c) d w ≡ directory_word t c w
-unfolding with_directory
+pub directory_at : (S : List ℕ) (d t c w : ℕ) → 1024 * d + 1024 ≤ length S → w < 1024 → word_at (with_directory_words S d t c) d w ≡ directory_word t c w
+unfolding with_directory_words
 directory_at S d t c w fits low = run_at 1024 S (1024 * d) (directory_word t c) w fits low
 
-directory_beside : (S : List ℕ) (d t c q : ℕ) → (q < 1024 * d) ⊎ (1024 * d + 1024 ≤ q) → get_or (with_directory S d t c) q 0 ≡ get_or S q 0
-unfolding with_directory
+directory_beside : (S : List ℕ) (d t c q : ℕ) → (q < 1024 * d) ⊎ (1024 * d + 1024 ≤ q) → get_or (with_directory_words S d t c) q 0 ≡ get_or S q 0
+unfolding with_directory_words
 directory_beside S d t c q h = run_other 1024 S (1024 * d) (directory_word t c) q h
 
-pub directory_other : (S : List ℕ) (d t c g w : ℕ) → g ≢ d → w < 1024 → word_at (with_directory S d t c) g w ≡ word_at S g w
+pub directory_other : (S : List ℕ) (d t c g w : ℕ) → g ≢ d → w < 1024 → word_at (with_directory_words S d t c) g w ≡ word_at S g w
 directory_other S d t c g w ne low = directory_beside S d t c (1024 * g + w) (beside (cases_lt g d))
   where
     beside : (g < d) ⊎ (d ≤ g) → (1024 * g + w < 1024 * d) ⊎ (1024 * d + 1024 ≤ 1024 * g + w)
@@ -70,38 +70,38 @@ directory_other S d t c g w ne low = directory_beside S d t c (1024 * g + w) (be
     beside (inr le) = inr (omega (arith, ne))
 
 -- the table
-pub length-with_table : (S : List ℕ) (table : ℕ → ℕ) (n : ℕ) → length (with_table S table n) ≡ length S
-unfolding with_table
-length-with_table S table zero = refl
-length-with_table S table (suc i) =
-    length-set (with_table S table i) (1024 * table (i / 1024) + i % 1024) (fetchable (word_at (with_table S table i) (table (i / 1024)) (i % 1024)))
-    ∙ length-with_table S table i
+pub length-with_fetchable_table : (S : List ℕ) (table : ℕ → ℕ) (n : ℕ) → length (with_fetchable_table S table n) ≡ length S
+unfolding with_fetchable_table
+length-with_fetchable_table S table zero = refl
+length-with_fetchable_table S table (suc i) =
+    length-set (with_fetchable_table S table i) (1024 * table (i / 1024) + i % 1024) (with_fetch (word_at (with_fetchable_table S table i) (table (i / 1024)) (i % 1024)))
+    ∙ length-with_fetchable_table S table i
 
 -- one table word more
-pub table_more : (S T U : List ℕ) (table : ℕ → ℕ) (i at v : ℕ) → T ≡ with_table S table i → at ≡ 1024 * table (i / 1024) + i % 1024 → v ≡ fetchable (get_or T at 0) → U ≡ set T at v → U ≡ with_table S table (i + 1)
-unfolding with_table
+pub table_more : (S T U : List ℕ) (table : ℕ → ℕ) (i at v : ℕ) → T ≡ with_fetchable_table S table i → at ≡ 1024 * table (i / 1024) + i % 1024 → v ≡ with_fetch (get_or T at 0) → U ≡ set T at v → U ≡ with_fetchable_table S table (i + 1)
+unfolding with_fetchable_table
 table_more S T U table i at v so_far there is put =
     put
     ∙ ap (set T at) is
-    ∙ ap (λ (s : List ℕ). set s at (fetchable (get_or s at 0))) so_far
-    ∙ ap (λ (q : ℕ). set (with_table S table i) q (fetchable (get_or (with_table S table i) q 0))) there
-    ∙ ap (with_table S table) (sym (add-one i))
+    ∙ ap (λ (s : List ℕ). set s at (with_fetch (get_or s at 0))) so_far
+    ∙ ap (λ (q : ℕ). set (with_fetchable_table S table i) q (with_fetch (get_or (with_fetchable_table S table i) q 0))) there
+    ∙ ap (with_fetchable_table S table) (sym (add-one i))
 
 -- it goes by the bare pages of the table pages that there are
-pub table_alike : (S : List ℕ) (f g : ℕ → ℕ) (n : ℕ) → ((k : ℕ) → k < table_pages n → f k ≡ g k) → with_table S f n ≡ with_table S g n
-unfolding with_table
+pub table_alike : (S : List ℕ) (f g : ℕ → ℕ) (n : ℕ) → ((k : ℕ) → k < table_pages n → f k ≡ g k) → with_fetchable_table S f n ≡ with_fetchable_table S g n
+unfolding with_fetchable_table
 table_alike S f g zero same = refl
 table_alike S f g (suc i) same =
     let last : f (i / 1024) ≡ g (i / 1024) = same (i / 1024) (omega arith) in
-    ap (λ (s : List ℕ). with_fetchable s (f (i / 1024)) (i % 1024)) (table_alike S f g i (λ k lt. same k (omega arith)))
-    ∙ ap (λ (p : ℕ). with_fetchable (with_table S g i) p (i % 1024)) last
+    ap (λ (s : List ℕ). with_fetch_at s (f (i / 1024)) (i % 1024)) (table_alike S f g i (λ k lt. same k (omega arith)))
+    ∙ ap (λ (p : ℕ). with_fetch_at (with_fetchable_table S g i) p (i % 1024)) last
 
 -- a word that is no table word
-pub table_other : (S : List ℕ) (table : ℕ → ℕ) (n g w : ℕ) → w < 1024 → ((i : ℕ) → i < n → table (i / 1024) ≡ g → w ≡ i % 1024 → ⊥) → word_at (with_table S table n) g w ≡ word_at S g w
-unfolding with_table
+pub table_other : (S : List ℕ) (table : ℕ → ℕ) (n g w : ℕ) → w < 1024 → ((i : ℕ) → i < n → table (i / 1024) ≡ g → w ≡ i % 1024 → ⊥) → word_at (with_fetchable_table S table n) g w ≡ word_at S g w
+unfolding with_fetchable_table
 table_other S table zero g w low out = refl
 table_other S table (suc i) g w low out =
-    get_or-set_other (with_table S table i) (1024 * table (i / 1024) + i % 1024) (1024 * g + w) (fetchable (word_at (with_table S table i) (table (i / 1024)) (i % 1024))) 0 ne
+    get_or-set_other (with_fetchable_table S table i) (1024 * table (i / 1024) + i % 1024) (1024 * g + w) (with_fetch (word_at (with_fetchable_table S table i) (table (i / 1024)) (i % 1024))) 0 ne
     ∙ table_other S table i g w low (λ k lt. out k (omega arith))
   where
     ne : 1024 * g + w ≢ 1024 * table (i / 1024) + i % 1024
@@ -111,23 +111,23 @@ table_other S table (suc i) g w low out =
 table_here : (S : List ℕ) (table : ℕ → ℕ) (i : ℕ)
     → ((k m : ℕ) → k < table_pages (suc i) → m < table_pages (suc i) → table k ≡ table m → k ≡ m)
     → ((k : ℕ) → k < table_pages (suc i) → table k < page_count S)
-    → word_at (with_table S table (suc i)) (table (i / 1024)) (i % 1024) ≡ fetchable (word_at S (table (i / 1024)) (i % 1024))
-unfolding with_table
+    → word_at (with_fetchable_table S table (suc i)) (table (i / 1024)) (i % 1024) ≡ with_fetch (word_at S (table (i / 1024)) (i % 1024))
+unfolding with_fetchable_table
 table_here S table i one within =
     let inside : table (i / 1024) < page_count S = within (i / 1024) (omega arith) in
-    let fits : 1024 * table (i / 1024) + i % 1024 < length (with_table S table i) = omega (arith, length-with_table S table i, inside) in
-    get_or-set_same (with_table S table i) (1024 * table (i / 1024) + i % 1024) (fetchable (word_at (with_table S table i) (table (i / 1024)) (i % 1024))) 0 fits
-    ∙ ap fetchable (table_other S table i (table (i / 1024)) (i % 1024) (omega arith) (λ k low same word.
+    let fits : 1024 * table (i / 1024) + i % 1024 < length (with_fetchable_table S table i) = omega (arith, length-with_fetchable_table S table i, inside) in
+    get_or-set_same (with_fetchable_table S table i) (1024 * table (i / 1024) + i % 1024) (with_fetch (word_at (with_fetchable_table S table i) (table (i / 1024)) (i % 1024))) 0 fits
+    ∙ ap with_fetch (table_other S table i (table (i / 1024)) (i % 1024) (omega arith) (λ k low same word.
     let page : k / 1024 ≡ i / 1024 = one (k / 1024) (i / 1024) (omega arith) (omega arith) same in
     omega arith))
 
 table_before : (S : List ℕ) (table : ℕ → ℕ) (m i : ℕ)
     → ((k l : ℕ) → k < table_pages (suc m) → l < table_pages (suc m) → table k ≡ table l → k ≡ l)
     → i < m
-    → word_at (with_table S table (suc m)) (table (i / 1024)) (i % 1024) ≡ word_at (with_table S table m) (table (i / 1024)) (i % 1024)
-unfolding with_table
+    → word_at (with_fetchable_table S table (suc m)) (table (i / 1024)) (i % 1024) ≡ word_at (with_fetchable_table S table m) (table (i / 1024)) (i % 1024)
+unfolding with_fetchable_table
 table_before S table m i one lt =
-    get_or-set_other (with_table S table m) (1024 * table (m / 1024) + m % 1024) (1024 * table (i / 1024) + i % 1024) (fetchable (word_at (with_table S table m) (table (m / 1024)) (m % 1024))) 0 apart
+    get_or-set_other (with_fetchable_table S table m) (1024 * table (m / 1024) + m % 1024) (1024 * table (i / 1024) + i % 1024) (with_fetch (word_at (with_fetchable_table S table m) (table (m / 1024)) (m % 1024))) 0 apart
   where
     apart : 1024 * table (i / 1024) + i % 1024 ≢ 1024 * table (m / 1024) + m % 1024
     apart = λ e.
@@ -139,11 +139,11 @@ pub table_at : (S : List ℕ) (table : ℕ → ℕ) (n i : ℕ)
     → ((k m : ℕ) → k < table_pages n → m < table_pages n → table k ≡ table m → k ≡ m)
     → ((k : ℕ) → k < table_pages n → table k < page_count S)
     → i < n
-    → word_at (with_table S table n) (table (i / 1024)) (i % 1024) ≡ fetchable (word_at S (table (i / 1024)) (i % 1024))
+    → word_at (with_fetchable_table S table n) (table (i / 1024)) (i % 1024) ≡ with_fetch (word_at S (table (i / 1024)) (i % 1024))
 table_at S table zero i one within lt = absurd (omega arith)
 table_at S table (suc m) i one within lt = elim (cases_eq i m) [
   | inl e ↦
-      ap (λ (k : ℕ). word_at (with_table S table (suc k)) (table (i / 1024)) (i % 1024)) (sym e)
+      ap (λ (k : ℕ). word_at (with_fetchable_table S table (suc k)) (table (i / 1024)) (i % 1024)) (sym e)
       ∙ table_here S table i (λ k l low high. one k l (omega (arith, e)) (omega (arith, e))) (λ k low. within k (omega (arith, e)))
   | inr ne ↦
       let low : i < m = omega (arith, ne) in
@@ -180,6 +180,6 @@ length-with_version S b dir = length-set (set S (1024 * b + 66) dir) (1024 * b +
 pub length-rewritten : (S : List ℕ) (x : Item) (dir d : ℕ) (table : ℕ → ℕ) → length (rewritten S x dir d table) ≡ length S
 unfolding rewritten
 length-rewritten S x dir d table =
-    length-with_version (with_table (with_directory S d x.table (table_pages x.pages)) table x.pages) x.block dir
-    ∙ length-with_table (with_directory S d x.table (table_pages x.pages)) table x.pages
-    ∙ length-with_directory S d x.table (table_pages x.pages)
+    length-with_version (with_fetchable_table (with_directory_words S d x.table (table_pages x.pages)) table x.pages) x.block dir
+    ∙ length-with_fetchable_table (with_directory_words S d x.table (table_pages x.pages)) table x.pages
+    ∙ length-with_directory_words S d x.table (table_pages x.pages)

@@ -1,23 +1,22 @@
 -- An upgraded machine is on its path, and has the map that it had.
-use Rattle.std.proofs.Common.{◌≡◌, ◌≢◌, ℕ, zero, suc, ◌+◌, ◌-◌, ◌/◌, ◌%◌, ◌^◌, ◌<◌, ◌≤◌, ◌⊎◌, inl, inr, true, false, List, [], ◌∷◌, ◌++◌, length, map, Option, Some, None, refl, ap, ◌∙◌, sym, subst, arith, slice_get, take}
+use Rattle.std.proofs.Common.{◌≡◌, ◌≢◌, ℕ, zero, suc, ◌+◌, ◌-◌, ◌/◌, ◌^◌, ◌<◌, ◌≤◌, ◌⊎◌, inl, inr, true, List, [], ◌∷◌, ◌++◌, length, Option, Some, None, refl, ap, ◌∙◌, sym, arith, slice_get, take}
 use Rattle.std.specs.Option.{option_map, unwrap_or}
 use Rattle.std.proofs.lemmas.Bool.{false≢true}
-use Rattle.std.proofs.lemmas.Option.{slice_get-get_or, same_Some}
+use Rattle.std.proofs.lemmas.Option.{slice_get-get_or}
 use Rattle.std.proofs.Math.ListN.{get_or}
 use Rattle.hv_word.specs.Words.{has}
 use Rattle.hv_word.specs.Storage.{page_count, word_at}
 use Rattle.hv_store.specs.declared.access.Slot.{Slot}
 use Rattle.hv_store.specs.Access.{identity}
 use Rattle.hv_map.specs.Apart.{blocks_of, standing_on, table_pages, tables_along, tables_of}
-use Rattle.hv_map.specs.Chain.{along, child_of, machines, map_along, map_of, pin_of}
+use Rattle.hv_map.specs.Chain.{along, machines, map_along, map_of, pin_of}
 use Rattle.hv_map.specs.Compose.{compose}
 use Rattle.hv_map.specs.Item.{Item}
 use Rattle.hv_map.specs.Levels.{map_at}
-use Rattle.hv_map.specs.Links.{syllable_of}
 use Rattle.hv_map.proofs.Levels.{pages_at-suc, pages_at-zero}
 use Rattle.hv_map.proofs.Machines.{pinned_fits, pinned_own}
 use Rattle.hv_map.proofs.Slots.{along-snoc}
-use Rattle.hv_apart.specs.Upgrade.{IsListed, IsUpgraded, last_item, outer_items, page_found, parent_map, refusal_of, upgraded, upgraded_in, written_in}
+use Rattle.hv_apart.specs.Upgrade.{IsListed, IsUpgraded, last_item, outer_items, page_found, parent_map, upgrade_refusal, upgraded, upgraded_in, written_in}
 use Rattle.hv_apart.proofs.Members.{has_left, has_one, has_right}
 use Rattle.hv_apart.proofs.Repinned.{child_again, composed_again, machines_again}
 use Rattle.hv_apart.proofs.Stood.{stands_on_block, stands_on_table}
@@ -146,12 +145,12 @@ module _ (S path : List ℕ) (items outer : List Item) (x : Item) (dir : ℕ) (s
       ∙ along-snoc S (identity (page_count S)) 0 outer x
       ∙ ap (λ (j : ℕ). compose S (along S (identity (page_count S)) 0 outer) j x.pages x.table x.version) level)
 
-pub path_law : (S path : List ℕ) (items : List Item) (x : Item) (dir : ℕ) → page_count S ≤ 2 ^ 20 → pin_of S path ≡ Some items → last_item items ≡ Some x → refusal_of S items dir ≡ None → pin_of (upgraded S items dir) path ≡ Some (outer_items items ++ record x { table = dir; version = 2 } ∷ [])
+pub path_law : (S path : List ℕ) (items : List Item) (x : Item) (dir : ℕ) → page_count S ≤ 2 ^ 20 → pin_of S path ≡ Some items → last_item items ≡ Some x → upgrade_refusal S items dir ≡ None → pin_of (upgraded S items dir) path ≡ Some (outer_items items ++ record x { table = dir; version = 2 } ∷ [])
 path_law S path items x dir small pinned last none =
     ap (λ (U : List ℕ). pin_of U path) (upgraded_last S items x dir last)
     ∙ on_path S path items (outer_items items) x dir (map_length S path items (length items - 1) small pinned (omega arith)) pinned (upgrading S path items x dir pinned last none)
 
-pub map_law : (S path : List ℕ) (items : List Item) (dir : ℕ) → page_count S ≤ 2 ^ 20 → pin_of S path ≡ Some items → refusal_of S items dir ≡ None → map_of (upgraded S items dir) path ≡ map_of S path
+pub map_law : (S path : List ℕ) (items : List Item) (dir : ℕ) → page_count S ≤ 2 ^ 20 → pin_of S path ≡ Some items → upgrade_refusal S items dir ≡ None → map_of (upgraded S items dir) path ≡ map_of S path
 map_law S path items dir small pinned none = go (last_item items) refl
   where
     go : (o : Option Item) → last_item items ≡ o → map_of (upgraded S items dir) path ≡ map_of S path

@@ -1,8 +1,7 @@
 -- The pages of blocks, directories and tables on which machines stand, and what follows where these are all different.
-use Rattle.std.proofs.Common.{◌≡◌, ◌≢◌, ℕ, ◌+◌, ◌-◌, ◌*◌, ◌/◌, ◌%◌, ◌<◌, ◌≤◌, Bool, true, false, cond, List, [], ◌∷◌, ◌++◌, length, Option, Some, None, refl, ap, ◌∙◌, sym, subst, arith, slice_get, take}
+use Rattle.std.proofs.Common.{◌≡◌, ◌≢◌, ℕ, ◌+◌, ◌-◌, ◌*◌, ◌/◌, ◌%◌, ◌<◌, ◌≤◌, Bool, true, false, cond, List, [], ◌∷◌, ◌++◌, length, Option, Some, None, ap, ◌∙◌, sym, subst, arith}
 use Rattle.std.specs.Prelude.{◌==◌}
-use Rattle.std.specs.List.{flat_map, range_with_len}
-use Rattle.std.proofs.lemmas.Bool.{eq-eqb, ne_eqb}
+use Rattle.std.proofs.lemmas.Bool.{eq-eqb}
 use Rattle.std.proofs.lemmas.List.{map_push, take_all}
 use Rattle.std.proofs.lemmas.Option.{slice_get_within}
 use Rattle.hv_word.specs.Words.{has}
@@ -13,12 +12,12 @@ use Rattle.hv_store.specs.declared.access.Way.TheVariants.{Open, Shut}
 use Rattle.hv_store.specs.Access.{identity}
 use Rattle.hv_map.specs.Apart.{are_distinct, blocks_of, directory_of, is_apart, open_pages, standing_on, table_open, table_pages, tables_along, tables_of}
 use Rattle.hv_map.specs.Chain.{along, map_along}
-use Rattle.hv_map.specs.Compose.{EachTableWord, Looked, Named, Stopped, look, page_named, reading, table_of}
+use Rattle.hv_map.specs.Compose.{EachTableWord, Named, Stopped, look, page_named, reading, table_of}
 use Rattle.hv_map.specs.Item.{Item}
 use Rattle.hv_map.proofs.Rows.{table_plain}
-use Rattle.hv_apart.specs.Upgrade.{last_item, outer_items, parent_map}
+use Rattle.hv_apart.specs.Upgrade.{last_item, outer_items}
 use Rattle.hv_apart.proofs.Growing.{tables_along-push, take-push}
-use Rattle.hv_apart.proofs.Members.{Parted, has_left, has_one, has_range, has_right, parted, range_one}
+use Rattle.hv_apart.proofs.Members.{has_left, has_one, has_range, has_right, parted}
 
 -- the table page of page i is that of the first page whose word is in it
 named_page : (S : List ℕ) (j i k w u : ℕ) (way : Option Way) → page_named (look S j i w way) ≡ Named u → page_named (look S j k w way) ≡ Named u

@@ -1,5 +1,5 @@
 -- Which words an upgrade changes, and that it changes no others.
-use Rattle.std.proofs.Common.{◌≡◌, ◌≢◌, ℕ, suc, ◌+◌, ◌-◌, ◌*◌, ◌/◌, ◌%◌, ◌^◌, ◌<◌, ◌≤◌, ◌⊎◌, inl, inr, Bool, true, false, List, [], ◌∷◌, ◌++◌, length, map, Option, Some, None, refl, ap, ◌∙◌, sym, subst, arith, slice_get}
+use Rattle.std.proofs.Common.{◌≡◌, ◌≢◌, ℕ, ◌+◌, ◌-◌, ◌*◌, ◌/◌, ◌%◌, ◌^◌, ◌<◌, ◌≤◌, inl, inr, true, false, List, [], ◌∷◌, ◌++◌, length, Option, Some, None, refl, ap, ◌∙◌, sym, subst, arith, slice_get}
 use Rattle.std.specs.Option.{option_and_then, option_map, unwrap_or}
 use Rattle.std.proofs.lemmas.Bool.{false≢true}
 use Rattle.std.proofs.lemmas.Option.{same_Some}
@@ -10,20 +10,18 @@ use Rattle.hv_store.specs.declared.access.Slot.{Slot}
 use Rattle.hv_store.specs.declared.access.Way.{Way}
 use Rattle.hv_store.specs.declared.access.Way.TheVariants.{Open, Shut}
 use Rattle.hv_store.specs.Access.{identity}
-use Rattle.hv_map.specs.Apart.{blocks_of, is_apart, standing_on, table_open, table_pages, tables_along, tables_of}
+use Rattle.hv_map.specs.Apart.{blocks_of, is_apart, standing_on, table_open, table_pages, tables_of}
 use Rattle.hv_map.specs.Carried.{OpensSame}
 use Rattle.hv_map.specs.Chain.{along, map_along, pin_of}
 use Rattle.hv_map.specs.Compose.{compose, reading, table_of}
 use Rattle.hv_map.specs.Item.{Item}
-use Rattle.hv_map.specs.Links.{syllable_of}
-use Rattle.hv_map.proofs.Handed.{composed_same}
 use Rattle.hv_map.proofs.Machines.{OpensBelow, composed_below, identity_below, pinned_fits, pinned_own}
 use Rattle.hv_map.proofs.Views.{along_same, identity_same}
-use Rattle.hv_apart.specs.Upgrade.{IsListed, IsUpgraded, Stays, directory_word, fetchable, last_item, opened, outer_items, page_found, parent_map, refusal_of, rewritten, upgraded, upgraded_in, with_directory, with_table, with_version, written_in}
+use Rattle.hv_apart.specs.Upgrade.{IsListed, IsUpgraded, directory_word, host_opened, last_item, outer_items, page_found, parent_map, rewritten, upgrade_refusal, upgraded, upgraded_in, with_directory_words, with_fetch, with_fetchable_table, with_version, written_in}
 use Rattle.hv_apart.proofs.Members.{has_one, has_range, has_right, range_one}
 use Rattle.hv_apart.proofs.Refusals.{IsUpgradable, upgradable}
-use Rattle.hv_apart.proofs.Rewriting.{directory_at, directory_other, length-rewritten, length-with_directory, length-with_table, table_at, table_other, version_directory, version_other, version_two}
-use Rattle.hv_apart.proofs.Stood.{StandsAlone, split_last, stands_alone, stands_on_block, stands_on_own, stands_on_table, table_there}
+use Rattle.hv_apart.proofs.Rewriting.{directory_at, directory_other, length-rewritten, length-with_directory_words, length-with_fetchable_table, table_at, table_other, version_directory, version_other, version_two}
+use Rattle.hv_apart.proofs.Stood.{StandsAlone, split_last, stands_alone, stands_on_block, stands_on_own, table_there}
 
 -- a page that is written in a bare page has a slot that opens it for writing
 pub record WrittenSlot (F : List Slot) (u g : ℕ) : Type 0 where
@@ -34,11 +32,11 @@ pub record WrittenSlot (F : List Slot) (u g : ℕ) : Type 0 where
 pub written_slot : (F : List Slot) (u g : ℕ) → written_in F u ≡ Some g → WrittenSlot F u g
 written_slot F u g e = go (slice_get F u) refl e
   where
-    through : (s : Slot) (way : Way) → slice_get F u ≡ Some s → s.write ≡ way → opened way ≡ Some g → WrittenSlot F u g
+    through : (s : Slot) (way : Way) → slice_get F u ≡ Some s → s.write ≡ way → host_opened way ≡ Some g → WrittenSlot F u g
     through s (Open h) is w f = record { slot = s; there = is; opens = w ∙ ap (λ (k : ℕ). Open k) (same_Some h g f) }
     through s (Shut l c p o) is w f = absurd (let q : None ≡ Some g = f in cc)
 
-    go : (o : Option Slot) → slice_get F u ≡ o → option_and_then (λ (s : Slot). opened s.write) o ≡ Some g → WrittenSlot F u g
+    go : (o : Option Slot) → slice_get F u ≡ o → option_and_then (λ (s : Slot). host_opened s.write) o ≡ Some g → WrittenSlot F u g
     go None is f = absurd (let q : None ≡ Some g = f in cc)
     go (Some s) is f = through s s.write is refl f
 
@@ -82,7 +80,7 @@ pub record Upgrading (S : List ℕ) (items outer : List Item) (x : Item) (dir : 
   pub block : x.block < page_count S
   pub pages : x.pages ≤ 2 ^ 20
 
-pub upgrading : (S path : List ℕ) (items : List Item) (x : Item) (dir : ℕ) → pin_of S path ≡ Some items → last_item items ≡ Some x → refusal_of S items dir ≡ None → Upgrading S items (outer_items items) x dir
+pub upgrading : (S path : List ℕ) (items : List Item) (x : Item) (dir : ℕ) → pin_of S path ≡ Some items → last_item items ≡ Some x → upgrade_refusal S items dir ≡ None → Upgrading S items (outer_items items) x dir
 upgrading S path items x dir pinned last none =
     let split : items ≡ outer_items items ++ x ∷ [] = split_last items x last in
     let can = upgradable S items x dir last none in
@@ -156,18 +154,18 @@ module _ (S : List ℕ) (items outer : List Item) (x : Item) (dir : ℕ) (up : U
 
   -- the storage part by part
   made : List ℕ
-  made = with_directory S d x.table (table_pages x.pages)
+  made = with_directory_words S d x.table (table_pages x.pages)
 
   tabled : List ℕ
-  tabled = with_table (with_directory S d x.table (table_pages x.pages)) table x.pages
+  tabled = with_fetchable_table (with_directory_words S d x.table (table_pages x.pages)) table x.pages
 
   made_pages : page_count made ≡ page_count S
   unfolding made
-  made_pages = ap (λ (n : ℕ). n / 1024) (length-with_directory S d x.table (table_pages x.pages))
+  made_pages = ap (λ (n : ℕ). n / 1024) (length-with_directory_words S d x.table (table_pages x.pages))
 
   tabled_pages : page_count tabled ≡ page_count S
   unfolding tabled made
-  tabled_pages = ap (λ (n : ℕ). n / 1024) (length-with_table made table x.pages) ∙ made_pages
+  tabled_pages = ap (λ (n : ℕ). n / 1024) (length-with_fetchable_table made table x.pages) ∙ made_pages
 
   parts : T ≡ with_version tabled x.block dir
   unfolding T d table tabled rewritten
@@ -193,14 +191,14 @@ module _ (S : List ℕ) (items outer : List Item) (x : Item) (dir : ℕ) (up : U
       ∙ past_table d w low (λ i lt e k. d_table (i / 1024) (page_of i lt) e)
       ∙ directory_at S d x.table (table_pages x.pages) w (omega (arith, below)) low
 
-  table_words : (i : ℕ) → i < x.pages → word_at T (table (i / 1024)) (i % 1024) ≡ fetchable (word_at S (table (i / 1024)) (i % 1024))
+  table_words : (i : ℕ) → i < x.pages → word_at T (table (i / 1024)) (i % 1024) ≡ with_fetch (word_at S (table (i / 1024)) (i % 1024))
   unfolding tabled made
   table_words i lt =
       let page = page_of i lt in
       let low : i % 1024 < 1024 = omega arith in
       past_block (table (i / 1024)) (i % 1024) low (block_table (i / 1024) page)
       ∙ table_at made table x.pages i own_one (λ k high. subst (λ (P : ℕ). table k < P) (sym made_pages) (own_below k high)) lt
-      ∙ ap fetchable (directory_other S d x.table (table_pages x.pages) (table (i / 1024)) (i % 1024) (d_table (i / 1024) page) low)
+      ∙ ap with_fetch (directory_other S d x.table (table_pages x.pages) (table (i / 1024)) (i % 1024) (d_table (i / 1024) page) low)
 
   other_words : (g w : ℕ) → w < 1024 → (IsListed F x dir g w → ⊥) → word_at T g w ≡ word_at S g w
   unfolding F d table made
@@ -220,7 +218,7 @@ module _ (S : List ℕ) (items outer : List Item) (x : Item) (dir : ℕ) (up : U
             subst (λ (p : ℕ). word_at T p w ≡ directory_word x.table (table_pages x.pages) w) same (directory_words w low);
         table = λ i g lt e.
             let same : table (i / 1024) ≡ g = same_Some (table (i / 1024)) g (sym (up.can.tables_written (i / 1024) (page_of i lt)) ∙ e) in
-            subst (λ (p : ℕ). word_at T p (i % 1024) ≡ fetchable (word_at S p (i % 1024))) same (table_words i lt);
+            subst (λ (p : ℕ). word_at T p (i % 1024) ≡ with_fetch (word_at S p (i % 1024))) same (table_words i lt);
         directory_page = ap (λ (U : List ℕ). word_at U x.block 66) parts ∙ version_directory tabled x.block dir inside;
         version = ap (λ (U : List ℕ). word_at U x.block 67) parts ∙ version_two tabled x.block dir inside;
         stays = record {
@@ -234,7 +232,7 @@ pub upgraded_last : (S : List ℕ) (items : List Item) (x : Item) (dir : ℕ) �
 upgraded_last S items x dir last =
     ap (λ (o : Option Item). unwrap_or (option_map (λ (y : Item). upgraded_in S (parent_map S items) y dir) o) S) last
 
-pub words_law : (S path : List ℕ) (items : List Item) (x : Item) (dir : ℕ) → pin_of S path ≡ Some items → last_item items ≡ Some x → refusal_of S items dir ≡ None → IsUpgraded S (upgraded S items dir) (parent_map S items) x dir
+pub words_law : (S path : List ℕ) (items : List Item) (x : Item) (dir : ℕ) → pin_of S path ≡ Some items → last_item items ≡ Some x → upgrade_refusal S items dir ≡ None → IsUpgraded S (upgraded S items dir) (parent_map S items) x dir
 words_law S path items x dir pinned last none =
     subst (λ (T : List ℕ). IsUpgraded S T (parent_map S items) x dir) (sym (upgraded_last S items x dir last))
     (is_upgraded S items (outer_items items) x dir (upgrading S path items x dir pinned last none))

@@ -8,14 +8,11 @@ use Rattle.hv_map.specs.Links.{chain_item}
 use Rattle.hv_apart.specs.Upgrade.{last_item, parent_map, written_in}
 use Rattle.hv_apart.specs.declared.upgrading.Plan.{Plan}
 
--- the bare pages are pages of the storage, and those in which a parent with the map F writes the page of the directory
--- and the pages of the table
-pub record IsPlanOf (S : List ℕ) (F : List Slot) (dir : ℕ) (p : Plan) : Type 0 where
+-- the bare pages are those in which a parent with the map F writes the page of the directory and the pages of the table
+pub record IsPlanOf (F : List Slot) (dir : ℕ) (p : Plan) : Type 0 where
   pub directory : written_in F dir ≡ Some p.directory
-  pub within : p.directory < page_count S
   pub tables :
       (k : ℕ) → k < table_pages p.child.pages → written_in F (p.child.table + k) ≡ Some (slice_index p.tables k)
-  pub tables_within : (k : ℕ) → k < table_pages p.child.pages → slice_index p.tables k < page_count S
 
 -- all places that are written are in the storage, and the names of the table's pages fit in a word
 pub record FitsStore (S : List ℕ) (p : Plan) : Type 0 where
@@ -26,9 +23,9 @@ pub record FitsStore (S : List ℕ) (p : Plan) : Type 0 where
   pub names : p.child.table + table_pages p.child.pages ≤ 2 ^ 20
 
 -- the plan is that of the machine at the end of the items, and fits
-pub record IsReady (S : List ℕ) (items : List Item) (dir : ℕ) (p : Plan) : Type 0 where
+pub record IsPlanned (S : List ℕ) (items : List Item) (dir : ℕ) (p : Plan) : Type 0 where
   pub item : Item
   pub last : last_item items ≡ Some item
   pub said : chain_item item ≡ p.child
-  pub plan : IsPlanOf S (parent_map S items) dir p
+  pub plan : IsPlanOf (parent_map S items) dir p
   pub fits : FitsStore S p

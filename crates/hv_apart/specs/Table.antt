@@ -8,9 +8,9 @@ use Rattle.hv_map.specs.Item.{Item}
 use Rattle.hv_nest.specs.Watched.{places}
 use Rattle.hv_map.specs.declared.chain.ChainItem.{ChainItem}
 
--- such a machine, with any syllable
-abbrev pub machine_of : ChainItem → Item
-machine_of c = record { syllable = 0; block = c.block; pages = c.pages; table = c.table; version = c.version }
+-- such a machine; its syllable, which nothing here reads, is 0
+abbrev pub item_of_chain : ChainItem → Item
+item_of_chain c = record { syllable = 0; block = c.block; pages = c.pages; table = c.table; version = c.version }
 
 -- the bare pages of the first n pages of a child's table, where F is its parent's map, at level j
 abbrev pub first_tables : List ℕ → List Slot → ℕ → Item → ℕ → List ℕ

@@ -9,10 +9,10 @@ ghost use Rattle.hv_map.specs.Links.{last_block, syllable_of};
 ghost use Rattle.hv_map.specs.Tables.{IsCacheOf};
 ghost use Rattle.hv_nest.specs.Watched.{but_lines, chain_foot, foot, item_foot, own_places, page_foot, standing_places};
 ghost use Rattle.hv_apart.specs.Marked.{Joined, SetOf, is_marked};
-ghost use Rattle.hv_apart.specs.Table.{machine_of, places_in, table_places};
+ghost use Rattle.hv_apart.specs.Table.{item_of_chain, places_in, table_places};
 
 use crate::bits::{clear, fill, is_set, set};
-use crate::pages::{directory, prefix, table_page};
+use crate::pages::{directory, prefix, table_page, table_pages};
 use hv_map::{Chain, ChainItem, TableCache};
 use hv_store::Store;
 use std::alloc::{AllocError, Global};
@@ -104,11 +104,11 @@ fn put_item(words: &mut [u32], store: &Store, chain: &Chain, child: ChainItem)
     requires block { child.block < page_count store.now }
     requires pages { child.pages ≤ 2 ^ 20 }
     requires room { length words.old ≡ 32 * page_count store.now }
-    ensures { Joined words.old words.new (item_foot store.now (map_along store.now chain.now) (length chain.now) (machine_of child)) }
+    ensures { Joined words.old words.new (item_foot store.now (map_along store.now chain.now) (length chain.now) (item_of_chain child)) }
 {
     let mut cache = TableCache::new();
     put_words(words, store, Some(child.block), 65, 3);
-    let tables = (child.pages + 1023) / 1024;
+    let tables = table_pages(child.pages);
     let page = directory(&mut cache, store, chain, child);
     put_words(words, store, page, 0, tables);
     put_tables(words, &mut cache, store, chain, child);
@@ -125,9 +125,9 @@ fn put_tables(
     requires pages { child.pages ≤ 2 ^ 20 }
     requires room { length words.old ≡ 32 * page_count store.now }
     requires cache { IsCacheOf store.now chain.now cache.old }
-    ensures { Joined words.old words.new (table_places store.now (map_along store.now chain.now) (length chain.now) (machine_of child) child.pages) }
+    ensures { Joined words.old words.new (table_places store.now (map_along store.now chain.now) (length chain.now) (item_of_chain child) child.pages) }
 {
-    for k in 0..(child.pages + 1023) / 1024 {
+    for k in 0..table_pages(child.pages) {
         let first = 1024 * k;
         let table = table_page(cache, store, chain, child, first);
         put_words(words, store, table, 0, (child.pages - first).min(1024));

@@ -1,14 +1,15 @@
-//! The first machines of a chain, and the bare pages in which a machine reads the tables of its children or writes a page.
+//! The first machines of a chain, how many pages a table takes, and the bare pages in which a machine reads the tables of its
+//! children or writes a page.
 
 ghost use Rattle.std.specs.Prelude.{◌≡◌, ◌<◌, ◌≤◌, ◌^◌, IfSome, Some, length, map, take};
 ghost use Rattle.std.specs.Option.{option_to_list};
 ghost use Rattle.hv_word.specs.Storage.{page_count};
-ghost use Rattle.hv_map.specs.Apart.{directory_of, table_open};
+ghost use Rattle.hv_map.specs.Apart.{directory_of, table_open, table_pages as table_pages_of};
 ghost use Rattle.hv_map.specs.Chain.{map_along, pin_of};
 ghost use Rattle.hv_map.specs.Compose.{reading, table_of};
 ghost use Rattle.hv_map.specs.Links.{syllable_of};
 ghost use Rattle.hv_map.specs.Tables.{IsCacheOf};
-ghost use Rattle.hv_apart.specs.Table.{machine_of};
+ghost use Rattle.hv_apart.specs.Table.{item_of_chain};
 ghost use Rattle.hv_apart.specs.Upgrade.{written_in};
 
 use hv_block::block_word;
@@ -30,6 +31,15 @@ pub(crate) fn prefix(store: &Store, chain: &Chain, level: u32) -> Chain
     pin(store, &path).unwrap()
 }
 
+/// How many pages the table of so many pages takes.
+pub(crate) fn table_pages(pages: u32) -> u32
+    requires { pages ≤ 2 ^ 20 }
+    ensures pages { result ≡ table_pages_of pages }
+    ensures bound { result ≤ 1024 }
+{
+    (pages + 1023) / 1024
+}
+
 /// The bare page of the directory of a child, where the chain's machine can read it and the child has one.
 pub(crate) fn directory(
     cache: &mut TableCache,
@@ -38,7 +48,7 @@ pub(crate) fn directory(
     child: ChainItem,
 ) -> Option<u32>
     requires { IsCacheOf store.now chain.now cache.old }
-    ensures page { option_to_list result ≡ directory_of (map_along store.now chain.now) (machine_of child) }
+    ensures page { option_to_list result ≡ directory_of (map_along store.now chain.now) (item_of_chain child) }
     ensures bound { IfSome result (λ g. g < page_count store.now) }
     ensures cache { IsCacheOf store.now chain.now cache.new }
 {

@@ -7,10 +7,10 @@ ghost use Rattle.hv_map.specs.Apart.{blocks_of, directory_of, is_apart, is_one, 
 ghost use Rattle.hv_map.specs.Chain.{map_along, pin_of};
 ghost use Rattle.hv_map.specs.Links.{syllable_of};
 ghost use Rattle.hv_apart.specs.Added.{Added, Tells};
-ghost use Rattle.hv_apart.specs.Table.{machine_of};
+ghost use Rattle.hv_apart.specs.Table.{item_of_chain};
 
 use crate::marks::Marks;
-use crate::pages::{directory, prefix, table_page};
+use crate::pages::{directory, prefix, table_page, table_pages};
 use hv_map::{Chain, ChainItem, TableCache};
 use hv_store::Store;
 
@@ -70,12 +70,12 @@ fn add_tables(marks: &mut Marks, store: &Store, chain: &Chain)
 // The directory and the tables of a child of the chain's machine.
 fn add_tables_of(marks: &mut Marks, store: &Store, chain: &Chain, child: ChainItem)
     requires { child.pages ≤ 2 ^ 20 }
-    ensures { Added marks.old marks.new (directory_of (map_along store.now chain.now) (machine_of child) ++ tables_of store.now (map_along store.now chain.now) (length chain.now) (machine_of child)) }
+    ensures { Added marks.old marks.new (directory_of (map_along store.now chain.now) (item_of_chain child) ++ tables_of store.now (map_along store.now chain.now) (length chain.now) (item_of_chain child)) }
 {
     let _pages = store.pages();
     let mut cache = TableCache::new();
     marks.add_found(directory(&mut cache, store, chain, child));
-    for k in 0..(child.pages + 1023) / 1024 {
+    for k in 0..table_pages(child.pages) {
         marks.add_found(table_page(&mut cache, store, chain, child, 1024 * k));
     }
 }

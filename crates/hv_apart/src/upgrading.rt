@@ -5,11 +5,11 @@ ghost use Rattle.hv_word.specs.Storage.{page_count};
 ghost use Rattle.hv_map.specs.Apart.{table_pages as table_pages_of};
 ghost use Rattle.hv_map.specs.Chain.{map_along, pin_of};
 ghost use Rattle.hv_map.specs.Links.{syllable_of};
-ghost use Rattle.hv_apart.specs.Plan.{FitsStore, IsPlanOf, IsReady};
-ghost use Rattle.hv_apart.specs.Table.{machine_of};
-ghost use Rattle.hv_apart.specs.Upgrade.{Stays, directory_word as directory_word_of, fetchable as fetchable_of, first_shut, is_outside as is_outside_of, last_item, parent_map, refusal_of, rewritten, upgraded, with_directory, with_table};
+ghost use Rattle.hv_apart.specs.Plan.{FitsStore, IsPlanOf, IsPlanned};
+ghost use Rattle.hv_apart.specs.Table.{item_of_chain};
+ghost use Rattle.hv_apart.specs.Upgrade.{Stays, directory_word as directory_word_of, first_shut, last_item, leaves_parent as leaves_parent_of, parent_map, rewritten, upgrade_refusal, upgraded, with_directory_words, with_fetch as with_fetch_of, with_fetchable_table};
 
-use crate::pages::{prefix, written_at};
+use crate::pages::{prefix, table_pages, written_at};
 use crate::standing::standing_pages;
 use hv_map::{Chain, ChainItem};
 use hv_store::Store;
@@ -36,7 +36,7 @@ pub enum UpgradeEnd {
 pub fn upgrade(store: &mut Store, chain: &Chain, dir: u32) -> Result<(), UpgradeEnd>
     requires pinned { pin_of store.old (map syllable_of chain.now) ≡ Some chain.now }
     requires inside { 0 < length chain.now }
-    ensures refused { MatchOption (refusal_of store.old chain.now dir) (IsOk result) (λ end. result ≡ Err end) }
+    ensures refused { MatchOption (upgrade_refusal store.old chain.now dir) (IsOk result) (λ end. result ≡ Err end) }
     ensures ok { OnOk result (store.new ≡ upgraded store.old chain.now dir) }
     ensures stays { OnOk result (IfSome (last_item chain.now) (λ x. Stays store.old store.new (parent_map store.old chain.now) x dir)) }
     ensures err { OnErr result (store.new ≡ store.old) }
@@ -50,8 +50,8 @@ pub fn upgrade(store: &mut Store, chain: &Chain, dir: u32) -> Result<(), Upgrade
 fn ready(store: &Store, chain: &Chain, dir: u32) -> Result<Plan, UpgradeEnd>
     requires pinned { pin_of store.now (map syllable_of chain.now) ≡ Some chain.now }
     requires inside { 0 < length chain.now }
-    ensures refused { MatchOption (refusal_of store.now chain.now dir) (IsOk result) (λ end. result ≡ Err end) }
-    ensures plan { IfOk result (IsReady store.now chain.now dir) }
+    ensures refused { MatchOption (upgrade_refusal store.now chain.now dir) (IsOk result) (λ end. result ≡ Err end) }
+    ensures plan { IfOk result (IsPlanned store.now chain.now dir) }
 {
     let level = chain.len() - 1;
     let child = chain.item(level);
@@ -63,7 +63,7 @@ fn ready(store: &Store, chain: &Chain, dir: u32) -> Result<Plan, UpgradeEnd>
         return Err(UpgradeEnd::Apart);
     }
     let parent = prefix(store, chain, level);
-    if is_outside(parent.pages(store), child, dir) {
+    if leaves_parent(parent.pages(store), child, dir) {
         return Err(UpgradeEnd::Outside);
     }
     let plan = Plan::find(store, &parent, child, dir)?;
@@ -74,21 +74,12 @@ fn ready(store: &Store, chain: &Chain, dir: u32) -> Result<Plan, UpgradeEnd>
 }
 
 // Whether the directory's page or a page of the table isn't one of so many pages.
-fn is_outside(pages: u32, child: ChainItem, dir: u32) -> bool
+fn leaves_parent(pages: u32, child: ChainItem, dir: u32) -> bool
     requires { child.pages ≤ 2 ^ 20 }
-    ensures { result ≡ is_outside_of pages (machine_of child) dir }
+    ensures { result ≡ leaves_parent_of pages (item_of_chain child) dir }
 {
     let end = u64::from(child.table) + u64::from(table_pages(child.pages));
     pages <= dir || u64::from(pages) < end
-}
-
-// How many pages the table of so many pages takes.
-fn table_pages(pages: u32) -> u32
-    requires { pages ≤ 2 ^ 20 }
-    ensures pages { result ≡ table_pages_of pages }
-    ensures bound { result ≤ 1024 }
-{
-    (pages + 1023) / 1024
 }
 
 // A machine that is upgraded, and the bare pages that are written: the directory's, and those of the table, of which there are
@@ -106,9 +97,9 @@ impl Plan {
         requires pages { child.pages ≤ 2 ^ 20 }
         requires directory { dir < length (map_along store.now parent.now) }
         requires tables { child.table + table_pages_of child.pages ≤ length (map_along store.now parent.now) }
-        ensures shut { MatchOption (first_shut (map_along store.now parent.now) (machine_of child) dir) (IsOk result) (λ page. result ≡ Err (UpgradeEnd.Shut page)) }
+        ensures shut { MatchOption (first_shut (map_along store.now parent.now) (item_of_chain child) dir) (IsOk result) (λ page. result ≡ Err (UpgradeEnd.Shut page)) }
         ensures child { IfOk result (λ p. p.child ≡ child) }
-        ensures plan { IfOk result (IsPlanOf store.now (map_along store.now parent.now) dir) }
+        ensures plan { IfOk result (IsPlanOf (map_along store.now parent.now) dir) }
     {
         // The parent has at most 2^20 pages.
         let _pages = parent.pages(store);
@@ -133,7 +124,7 @@ impl Plan {
     // Writes the directory, the table and the block.
     fn write(&self, store: &mut Store, dir: u32)
         requires { FitsStore store.old self.now }
-        ensures { store.new ≡ rewritten store.old (machine_of self.now.child) dir self.now.directory (slice_index self.now.tables) }
+        ensures { store.new ≡ rewritten store.old (item_of_chain self.now.child) dir self.now.directory (slice_index self.now.tables) }
     {
         self.write_directory(store);
         self.write_table(store);
@@ -147,7 +138,7 @@ impl Plan {
     // Writes the directory.
     fn write_directory(&self, store: &mut Store)
         requires { FitsStore store.old self.now }
-        ensures written { store.new ≡ with_directory store.old self.now.directory self.now.child.table (table_pages_of self.now.child.pages) }
+        ensures written { store.new ≡ with_directory_words store.old self.now.directory self.now.child.table (table_pages_of self.now.child.pages) }
         ensures len { length store.new ≡ length store.old }
     {
         let _pages = store.pages();
@@ -163,13 +154,13 @@ impl Plan {
     // Lets the machine's pages be fetched, as far as their table words are present.
     fn write_table(&self, store: &mut Store)
         requires { FitsStore store.old self.now }
-        ensures written { store.new ≡ with_table store.old (slice_index self.now.tables) self.now.child.pages }
+        ensures written { store.new ≡ with_fetchable_table store.old (slice_index self.now.tables) self.now.child.pages }
         ensures len { length store.new ≡ length store.old }
     {
         let _pages = store.pages();
         for page in 0..self.child.pages {
             let at = 1024 * self.tables[page as usize / 1024] + page % 1024;
-            store.put(at, fetchable(store.get(at)));
+            store.put(at, with_fetch(store.get(at)));
         }
     }
 }
@@ -187,8 +178,8 @@ fn directory_word(table: u32, tables: u32, word: u32) -> u32
 }
 
 // A table word that lets its page be fetched, where it is present.
-fn fetchable(word: u32) -> u32
-    ensures { result ≡ fetchable_of word }
+fn with_fetch(word: u32) -> u32
+    ensures { result ≡ with_fetch_of word }
 {
     if word % 2 == 0 {
         word

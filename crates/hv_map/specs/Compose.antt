@@ -51,11 +51,11 @@ word_in S reads j i (Stopped way) = Stopped way
 abbrev pub entry_of : List ℕ → (ℕ → Option Way) → ℕ → ℕ → ℕ → ℕ → Looked
 entry_of S reads j t v i = word_in S reads j i (table_of S reads j t v i)
 
--- whether the entry e, in a table of version v, keeps its page from being written, and from being fetched
+-- whether the entry e keeps its page from being written
 abbrev pub no_write : ℕ → Bool
 no_write e = e / 2 % 2 == 0
 
--- the same of fetching, which only version 2 denies
+-- whether, in a table of version v, it keeps its page from being fetched: only version 2 denies that
 abbrev pub no_fetch : ℕ → ℕ → Bool
 no_fetch v e = (v == 2) && (e / 4 % 2 == 0)
 

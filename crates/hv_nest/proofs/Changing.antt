@@ -66,13 +66,13 @@ sets_append (u ∷ us) vs S i =
     sets_append us vs (set S i u) (suc i) ∙ ap (λ (k : ℕ). sets (sets (set S i u) (suc i) us) k vs) e
 
 -- the parts of a block, put one after another, are the registers
-pub all_put : (S T1 T2 T3 T4 xs cs : List ℕ) (g v : ℕ) (q : Regs) → T1 ≡ set S (1024 * g) q.pc → T2 ≡ sets T1 (1024 * g + 1) xs → T3 ≡ sets T2 (1024 * g + 32) cs → T4 ≡ set T3 (1024 * g + 64) v → xs ≡ drop 1 (file_of q) → cs ≡ control_of q → v ≡ q.next → T4 ≡ put_regs S g q
-all_put S T1 T2 T3 T4 xs cs g v q put1 put2 put3 put4 file control next =
+pub all_put : (S first second third last xs cs : List ℕ) (g v : ℕ) (q : Regs) → first ≡ set S (1024 * g) q.pc → second ≡ sets first (1024 * g + 1) xs → third ≡ sets second (1024 * g + 32) cs → last ≡ set third (1024 * g + 64) v → xs ≡ drop 1 (file_of q) → cs ≡ control_of q → v ≡ q.next → last ≡ put_regs S g q
+all_put S first second third last xs cs g v q put1 put2 put3 put4 file control next =
     let a : ℕ = 1024 * g in
     let one : a + 1 ≡ suc a = omega arith in
     let far : a + 32 ≡ suc a + 31 = omega arith in
     put4
-    ∙ ap (λ (w : ℕ). set T3 (a + 64) w) next
+    ∙ ap (λ (w : ℕ). set third (a + 64) w) next
     ∙ ap (λ (T : List ℕ). set T (a + 64) q.next) (
     put3
     ∙ ap (λ (T : List ℕ). sets T (a + 32) cs) (

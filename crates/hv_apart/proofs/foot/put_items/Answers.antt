@@ -5,7 +5,7 @@ use Rattle.hv_store.specs.Access.{identity}
 use Rattle.hv_map.specs.Chain.{map_along}
 use Rattle.hv_map.specs.declared.chain.ChainItem.{ChainItem}
 use Rattle.hv_nest.specs.Watched.{chain_foot, item_foot}
-use Rattle.hv_apart.specs.Table.{machine_of}
+use Rattle.hv_apart.specs.Table.{item_of_chain}
 use Rattle.hv_apart.proofs.Joining.{joined_none, joined_more}
 use Rattle.hv_map.proofs.Machines.{pinned_fits}
 use Rattle.hv_apart.proofs.Growing.{item_there}
@@ -33,5 +33,5 @@ loop-level-preserved c =
     let S = c.args.store.now in
     let parent = c.prefix-parent.result in
     let x = item_there c.args.chain.now c.loop-level.level c.item.result c.item.ensures in
-    joined_more _ _ _ (chain_foot S (identity (page_count S)) 0 (take c.loop-level.level c.args.chain.now)) (item_foot S (map_along S parent) (length parent) (machine_of c.item.result)) _ c.loop-level.invariant c.put_item.ensures
+    joined_more _ _ _ (chain_foot S (identity (page_count S)) 0 (take c.loop-level.level c.args.chain.now)) (item_foot S (map_along S parent) (length parent) (item_of_chain c.item.result)) _ c.loop-level.invariant c.put_item.ensures
     (chain_foot-more S c.args.chain.now parent c.loop-level.level x.0 c.item.result x.1 x.2 c.prefix-parent.ensures)

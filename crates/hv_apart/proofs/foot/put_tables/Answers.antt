@@ -2,7 +2,7 @@
 use Rattle.std.proofs.Common.{◌≡◌, ℕ, ◌+◌, ◌*◌, ◌++◌, length, min, ap, ◌∙◌, arith}
 use Rattle.std.specs.Option.{option_to_list}
 use Rattle.hv_map.specs.Chain.{map_along}
-use Rattle.hv_apart.specs.Table.{machine_of, table_places, places_in}
+use Rattle.hv_apart.specs.Table.{item_of_chain, table_places, places_in}
 use Rattle.hv_apart.proofs.Joining.{joined_more}
 use Rattle.hv_apart.proofs.Feet.{table_places-chunk}
 use Rattle.hv_apart.proofs.foot.put_tables.Goals as goal
@@ -12,7 +12,7 @@ loop-k-preserved c =
     let S = c.args.store.now in
     let F = map_along S c.args.chain.now in
     let j = length c.args.chain.now in
-    let x = machine_of c.args.child in
+    let x = item_of_chain c.args.child in
     let n = c.args.child.pages in
     let k = c.loop-k.k in
     let r = c.table_page-table.result in

@@ -4,7 +4,7 @@ use Rattle.std.specs.Option.{option_to_list}
 use Rattle.hv_map.specs.Apart.{directory_of, table_open}
 use Rattle.hv_map.specs.Chain.{map_along}
 use Rattle.hv_map.specs.Compose.{reading, table_of}
-use Rattle.hv_apart.specs.Table.{machine_of, first_tables}
+use Rattle.hv_apart.specs.Table.{item_of_chain, first_tables}
 use Rattle.hv_apart.proofs.Adding.{added_more}
 use Rattle.hv_apart.proofs.Growing.{tables-push}
 use Rattle.hv_apart.proofs.standing.add_tables_of.Goals as goal
@@ -14,7 +14,7 @@ loop-k-preserved c =
     let S = c.args.store.now in
     let F = map_along S c.args.chain.now in
     let j = length c.args.chain.now in
-    let x = machine_of c.args.child in
+    let x = item_of_chain c.args.child in
     let k = c.loop-k.k in
     let before = directory_of F x in
     let some = first_tables S F j x k in (

@@ -1,9 +1,9 @@
 -- What is written is the upgrade, and all else stays.
-use Rattle.std.proofs.Common.{◌≡◌, ℕ, List, Option, None, Some, Result, Ok, map, subst, sym, ◌∙◌, refl}
+use Rattle.std.proofs.Common.{◌≡◌, ℕ, List, Option, None, Result, Ok, map, subst, sym, ◌∙◌, refl}
 use Rattle.std.specs.Prelude.{IfSome}
 use Rattle.hv_map.specs.Item.{Item}
 use Rattle.hv_map.specs.Links.{syllable_of}
-use Rattle.hv_apart.specs.Upgrade.{Stays, parent_map, refusal_of, upgraded}
+use Rattle.hv_apart.specs.Upgrade.{Stays, parent_map, upgrade_refusal}
 use Rattle.hv_apart.specs.declared.upgrading.Plan.{Plan}
 use Rattle.hv_apart.specs.declared.upgrading.UpgradeEnd.{UpgradeEnd}
 use Rattle.hv_apart.proofs.Plans.{written_out}
@@ -21,7 +21,7 @@ returns-clause-stays c =
     let dir = c.args.dir in
     let ready = c.in_ok-plan.ensures.plan in
     let r : Result Plan UpgradeEnd = Ok c.in_ok-plan.plan in
-    let none : refusal_of S items dir ≡ None = accepted (refusal_of S items dir) r c.in_ok-plan.plan refl c.in_ok-plan.ensures.refused in
+    let none : upgrade_refusal S items dir ≡ None = accepted (upgrade_refusal S items dir) r c.in_ok-plan.plan refl c.in_ok-plan.ensures.refused in
     let law = words_law S (map syllable_of items) items ready.item dir c.requires.pinned ready.last none in
     let written = c.write.ensures ∙ written_out S items dir c.in_ok-plan.plan ready in
     subst (λ (o : Option Item). IfSome o (λ x. Stays S c.write.new.store (parent_map S items) x dir)) (sym ready.last)

@@ -1,5 +1,4 @@
 use Rattle.std.proofs.Common.{◌≡◌, ℕ, ◌+◌, ◌<◌, Some, get_or, length}
-use Rattle.hv_word.specs.Storage.{page_count}
 use Rattle.hv_map.specs.Chain.{map_along}
 use Rattle.hv_apart.specs.Upgrade.{written_in}
 use Rattle.hv_apart.proofs.upgrading.Plan.find.Given as goal
@@ -9,5 +8,4 @@ abbrev pub invariant-loop-k : goal.invariant-loop-k
 invariant-loop-k l = record {
   found : (m : ℕ) → m < l.k → written_in (map_along l.store l.parent) (l.child.table + m) ≡ Some (get_or l.tables m 0);
   len : length l.tables ≡ 1024;
-  within : (m : ℕ) → m < l.k → get_or l.tables m 0 < page_count l.store;
 }

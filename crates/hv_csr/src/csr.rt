@@ -52,6 +52,7 @@ pub enum Csr {
 
 impl Csr {
     /// The register with that number, None where no register has it.
+    #[inline(always)]
     pub fn find(number: u32) -> Option<Csr>
         ensures { result ≡ csr_of number }
     {

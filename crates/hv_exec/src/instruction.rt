@@ -1,12 +1,14 @@
 //! One instruction of a machine over its storage.
 
-ghost use Rattle.std.specs.Prelude.{◌≡◌, ◌≢◌, ◌<◌, false, OnErr, IfErr, IfOk, length};
+ghost use Rattle.std.specs.Prelude.{◌≡◌, ◌≢◌, ◌<◌, ℕ, Bool, false, OnErr, IfErr, IfOk, length};
 ghost use Rattle.hv_isa.specs.Table.{decode_of};
 ghost use Rattle.hv_csr.specs.Traps.{take_trap_of};
 ghost use Rattle.hv_store.specs.Space.{Keeps};
+ghost use Rattle.hv_sv32.specs.Stop.{IsStopped};
 ghost use Rattle.hv_sv32.specs.Walk.{walk_of};
-ghost use Rattle.hv_exec.specs.Act.{act_of, acted, decoded, load_at, store_at, enter_at};
+ghost use Rattle.hv_exec.specs.Act.{act_of, acted, decoded, fetch_at, load_at, store_at, enter_at};
 ghost use Rattle.hv_exec.specs.Kept.{ChangedNothing};
+ghost use Rattle.hv_exec.specs.declared.answer.Width.{Width as WidthOf};
 ghost use Rattle.hv_exec.specs.Touched.{Touches};
 
 use crate::answer::{Task, Width, advance, illegal, put};
@@ -51,13 +53,9 @@ pub fn act_telling<S: Space>(cpu: &mut Cpu, hart: u32, space: &mut S) -> Result<
     ensures keeps { Keeps S.Space space.old space.new }
     ensures err { OnErr result (ChangedNothing S.Space space.old space.new cpu.old cpu.new) }
 {
-    let at = match direct(cpu, space, cpu.pc, Access::Fetch) {
-        Some(at) => at,
-        None => match translate(cpu, space, cpu.pc, Access::Fetch) {
-            Ok(at) => at,
-            Err(Stop::Trap { cause, tval }) => return Ok(trap(cpu, cause, tval)),
-            Err(Stop::Refused(refusal)) => return Err(refusal),
-        },
+    let pc = cpu.pc;
+    let Some(at) = direct(cpu, space, pc, Access::Fetch) else {
+        return stopped(cpu, space, pc, Access::Fetch);
     };
     let _pages = space.pages();
     let word = space.read((at / 4096) as u32, (at % 4096 / 4) as u32, Access::Fetch)?;
@@ -102,6 +100,40 @@ fn execute<S: Space>(cpu: &mut Cpu, hart: u32, space: &mut S, word: u32) -> Resu
     }
 }
 
+// Takes the trap of an access whose address leads nowhere, or tells the refusal. It is no part of what most accesses are.
+#[tactic(auto, unfolding(crate::specs::Act::fetch_at))]
+#[inline(never)]
+fn stopped<S: Space>(
+    cpu: &mut Cpu,
+    space: &mut S,
+    address: u32,
+    access: Access,
+) -> Result<Touched, Refusal>
+    requires next { cpu.old.next ≡ 0 }
+    requires room { 0 < S.room space.old }
+    requires stops { IsStopped (walk_of (S.storage space.old) (S.slots space.old) cpu.old address access) }
+    ensures fetch { (hart : ℕ) → acted result (S.storage space.new) cpu.new
+        ≡ fetch_at (S.storage space.old) (S.slots space.old) hart cpu.old
+        (walk_of (S.storage space.old) (S.slots space.old) cpu.old address access) }
+    ensures load { (at : ℕ) (width : Width) (signed : Bool) (rd : ℕ) → acted result (S.storage space.new) cpu.new
+        ≡ load_at (S.storage space.old) (S.slots space.old) cpu.old at width signed rd
+        (walk_of (S.storage space.old) (S.slots space.old) cpu.old address access) }
+    ensures store { (at : ℕ) (width : Width) (value : ℕ) → acted result (S.storage space.new) cpu.new
+        ≡ store_at (S.storage space.old) (S.slots space.old) cpu.old at width value
+        (walk_of (S.storage space.old) (S.slots space.old) cpu.old address access) }
+    ensures touches { IfOk result (λ touched. Touches touched cpu.old cpu.new) }
+    ensures next { cpu.new.next ≢ 0 → cpu.new.next < length (S.slots space.old) }
+    ensures level { IfErr result (λ e. e.level < S.depth space.old) }
+    ensures keeps { Keeps S.Space space.old space.new }
+    ensures err { OnErr result (ChangedNothing S.Space space.old space.new cpu.old cpu.new) }
+{
+    match translate(cpu, space, address, access) {
+        Ok(_) => unreachable!(),
+        Err(Stop::Trap { cause, tval }) => Ok(trap(cpu, cause, tval)),
+        Err(Stop::Refused(refusal)) => Err(refusal),
+    }
+}
+
 // Loads register `rd` from an aligned address.
 #[inline(always)]
 fn load<S: Space>(
@@ -124,13 +156,8 @@ fn load<S: Space>(
     ensures keeps { Keeps S.Space space.old space.new }
     ensures err { OnErr result (ChangedNothing S.Space space.old space.new cpu.old cpu.new) }
 {
-    let at = match direct(cpu, space, address, Access::Read) {
-        Some(at) => at,
-        None => match translate(cpu, space, address, Access::Read) {
-            Ok(at) => at,
-            Err(Stop::Trap { cause, tval }) => return Ok(trap(cpu, cause, tval)),
-            Err(Stop::Refused(refusal)) => return Err(refusal),
-        },
+    let Some(at) = direct(cpu, space, address, Access::Read) else {
+        return stopped(cpu, space, address, Access::Read);
     };
     let _pages = space.pages();
     let offset = (at % 4096) as u32;
@@ -159,13 +186,8 @@ fn store<S: Space>(
     ensures keeps { Keeps S.Space space.old space.new }
     ensures err { OnErr result (ChangedNothing S.Space space.old space.new cpu.old cpu.new) }
 {
-    let at = match direct(cpu, space, address, Access::Write) {
-        Some(at) => at,
-        None => match translate(cpu, space, address, Access::Write) {
-            Ok(at) => at,
-            Err(Stop::Trap { cause, tval }) => return Ok(trap(cpu, cause, tval)),
-            Err(Stop::Refused(refusal)) => return Err(refusal),
-        },
+    let Some(at) = direct(cpu, space, address, Access::Write) else {
+        return stopped(cpu, space, address, Access::Write);
     };
     let _pages = space.pages();
     let offset = (at % 4096) as u32;

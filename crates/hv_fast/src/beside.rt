@@ -245,7 +245,7 @@ impl Beside {
         if pin.live {
             return is_same(&pin.path, path);
         }
-        is_same(&path_of(store, cpu), path)
+        is_running(store, cpu, path)
     }
 
     // Puts a translation at hand that was missed, where it is held or can be.
@@ -339,6 +339,17 @@ fn is_same(path: &Path, other: &Path) -> bool
     ensures no { result ≡ false → other.now ≢ path.now }
 {
     path.as_slice() == other.as_slice()
+}
+
+// Whether the hart with these registers runs the machine on this path, by a path found anew. It needs room for that path, so it
+// is no part of what most steps ask.
+#[inline(never)]
+fn is_running(store: &Store, cpu: &Cpu, path: &Path) -> bool
+    requires { NextBelow (page_count store.now) cpu.now }
+    ensures yes { result ≡ true → path.now ≡ running_path store.now cpu.now }
+    ensures no { result ≡ false → path.now ≢ running_path store.now cpu.now }
+{
+    is_same(&path_of(store, cpu), path)
 }
 
 // Drops the translations that rest on a word that changed.

@@ -1,5 +1,5 @@
 -- What a walk comes to, and how an answer of the code says it.
-use Rattle.std.specs.Prelude.{ℕ, ◌/◌, ◌%◌, ◌^◌, ◌<◌, List, length, Result, Ok, Err, IfOk, IfErr}
+use Rattle.std.specs.Prelude.{◌≡◌, ℕ, ◌/◌, ◌%◌, ◌^◌, ◌<◌, List, length, Option, Some, None, Result, Ok, Err, IfOk, IfErr}
 use Rattle.hv_store.specs.declared.access.Refusal.{Refusal}
 use Rattle.hv_store.specs.declared.access.Slot.{Slot}
 use Rattle.hv_sv32.specs.declared.Stop.{Stop}
@@ -16,6 +16,21 @@ abbrev pub walked : Result ℕ Stop → Walked
 walked (Ok place) = Found (place / 4096) (place % 4096)
 walked (Err (Trap cause tval)) = TrapWith cause tval
 walked (Err (Refused refusal)) = RefusedBy refusal
+
+-- no place is come to
+abbrev pub IsStopped : Walked → Type 0
+IsStopped (Found page offset) = ⊥
+IsStopped (TrapWith cause tval) = Unit {0}
+IsStopped (RefusedBy refusal) = Unit {0}
+
+-- the place is the one that is come to, and there is none exactly where none is
+abbrev pub IsFound : Option ℕ → Walked → Type 0
+IsFound (Some place) given = given ≡ Found (place / 4096) (place % 4096)
+IsFound None given = IsStopped given
+
+-- an address is in a page of the machine with the map F, and has at most 34 bits
+abbrev pub IsInside : List Slot → ℕ → Type 0
+IsInside F place = (place / 4096 < length F) × (place < 2 ^ 34)
 
 -- a trap's cause is one of the numbers 0 to 15
 abbrev pub IsCause : Stop → Type 0

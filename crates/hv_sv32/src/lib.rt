@@ -1,11 +1,11 @@
 //! The page walk: from an address that an instruction uses to an address of the machine's storage.
 #![tactic(auto)]
 
-ghost use Rattle.std.specs.Prelude.{◌≡◌, ◌^◌, ◌/◌, ◌%◌, ◌<◌, IfSome, length};
+ghost use Rattle.std.specs.Prelude.{◌≡◌, ◌^◌, ◌<◌, IfSome, true, false};
 ghost use Rattle.hv_cpu.specs.Modes.{mode_word};
 ghost use Rattle.hv_store.specs.Space.{OnlyReads};
 ghost use Rattle.hv_sv32.specs.Entry as spec;
-ghost use Rattle.hv_sv32.specs.Stop.{FitsMachine, Found, walked};
+ghost use Rattle.hv_sv32.specs.Stop.{FitsMachine, IsFound, IsInside, walked};
 ghost use Rattle.hv_sv32.specs.Walk.{access_fault_of, at_first, at_second, is_bare, page_fault_of, located, through_first, through_second, walk_of};
 
 mod entry;
@@ -23,16 +23,146 @@ pub enum Stop {
     Refused(Refusal),
 }
 
-/// The same as `translate` where no page table is asked and the machine has the page; None elsewhere. It is what most accesses
-/// are, and answers without a result in memory.
+/// The same as `translate` where nothing stops the access, and None elsewhere. It is what most accesses are, and answers without a
+/// result in memory.
 #[inline(always)]
-pub fn direct<S: Space>(cpu: &Cpu, space: &S, address: u32, access: Access) -> Option<u64>
-    ensures walks { IfSome result (λ at.
-        Found (at / 4096) (at % 4096) ≡ walk_of (S.storage space.now) (S.slots space.now) cpu.now address access) }
-    ensures fits { IfSome result (λ at. (at / 4096 < length (S.slots space.now)) × (at < 2 ^ 34)) }
+pub fn direct<S: Space>(cpu: &Cpu, space: &mut S, address: u32, access: Access) -> Option<u64>
+    requires { 0 < S.room space.old }
+    ensures walks { IsFound result (walk_of (S.storage space.old) (S.slots space.old) cpu.now address access) }
+    ensures fits { IfSome result (IsInside (S.slots space.old)) }
+    ensures reads { OnlyReads S.Space space.old space.new }
 {
-    if is_untranslated(cpu, access) && address / 4096 < space.pages() {
-        Some(u64::from(address))
+    if is_untranslated(cpu, access) {
+        return in_page(space, address / 4096, address, access);
+    }
+    match access {
+        Access::Fetch => fetched_through_tables(cpu, space, address),
+        Access::Read => read_through_tables(cpu, space, address),
+        Access::Write => written_through_tables(cpu, space, address),
+    }
+}
+
+// A fetch from the first table on. Each kind of access has a function of its own, so that none asks which it is.
+#[inline(never)]
+fn fetched_through_tables<S: Space>(cpu: &Cpu, space: &mut S, address: u32) -> Option<u64>
+    requires { 0 < S.room space.old }
+    ensures walks { IsFound result (through_first (S.storage space.old) (S.slots space.old) cpu.now address Access.Fetch) }
+    ensures fits { IfSome result (IsInside (S.slots space.old)) }
+    ensures reads { OnlyReads S.Space space.old space.new }
+{
+    through_tables(cpu, space, address, Access::Fetch)
+}
+
+// The same of a load.
+#[inline(never)]
+fn read_through_tables<S: Space>(cpu: &Cpu, space: &mut S, address: u32) -> Option<u64>
+    requires { 0 < S.room space.old }
+    ensures walks { IsFound result (through_first (S.storage space.old) (S.slots space.old) cpu.now address Access.Read) }
+    ensures fits { IfSome result (IsInside (S.slots space.old)) }
+    ensures reads { OnlyReads S.Space space.old space.new }
+{
+    through_tables(cpu, space, address, Access::Read)
+}
+
+// The same of a store.
+#[inline(never)]
+fn written_through_tables<S: Space>(cpu: &Cpu, space: &mut S, address: u32) -> Option<u64>
+    requires { 0 < S.room space.old }
+    ensures walks { IsFound result (through_first (S.storage space.old) (S.slots space.old) cpu.now address Access.Write) }
+    ensures fits { IfSome result (IsInside (S.slots space.old)) }
+    ensures reads { OnlyReads S.Space space.old space.new }
+{
+    through_tables(cpu, space, address, Access::Write)
+}
+
+// From the first table on.
+#[inline(always)]
+fn through_tables<S: Space>(cpu: &Cpu, space: &mut S, address: u32, access: Access) -> Option<u64>
+    requires { 0 < S.room space.old }
+    ensures walks { IsFound result (through_first (S.storage space.old) (S.slots space.old) cpu.now address access) }
+    ensures fits { IfSome result (IsInside (S.slots space.old)) }
+    ensures reads { OnlyReads S.Space space.old space.new }
+{
+    let table = field::<0, 22>(cpu.satp);
+    if table >= space.pages() {
+        return None;
+    }
+    match space.read(table, field::<22, 10>(address), Access::Read) {
+        Ok(entry) => {
+            if is_faulty(entry) {
+                None
+            } else if is_leaf(entry) {
+                in_large_page(cpu, space, entry, address, access)
+            } else if is_plain(entry) {
+                through_table(cpu, space, field::<10, 22>(entry), address, access)
+            } else {
+                None
+            }
+        }
+        Err(_) => None,
+    }
+}
+
+// From the second table on.
+#[inline(always)]
+fn through_table<S: Space>(
+    cpu: &Cpu,
+    space: &mut S,
+    table: u32,
+    address: u32,
+    access: Access,
+) -> Option<u64>
+    requires { 0 < S.room space.old }
+    ensures walks { IsFound result (through_second (S.storage space.old) (S.slots space.old) cpu.now table address access) }
+    ensures fits { IfSome result (IsInside (S.slots space.old)) }
+    ensures reads { OnlyReads S.Space space.old space.new }
+{
+    if table >= space.pages() {
+        return None;
+    }
+    match space.read(table, field::<12, 10>(address), Access::Read) {
+        Ok(entry) => {
+            let mode = effective_mode(cpu, access);
+            if is_faulty(entry) || !is_leaf(entry) || !grants(cpu, mode, access, entry) {
+                return None;
+            }
+            in_page(space, field::<10, 22>(entry), address, access)
+        }
+        Err(_) => None,
+    }
+}
+
+// From a leaf of the first table on, which names 1024 pages.
+#[inline(always)]
+fn in_large_page<S: Space>(
+    cpu: &Cpu,
+    space: &S,
+    entry: u32,
+    address: u32,
+    access: Access,
+) -> Option<u64>
+    requires valid { spec.is_faulty entry ≡ false }
+    requires leaf { spec.is_leaf entry ≡ true }
+    ensures walks { IsFound result (at_first (S.storage space.now) (S.slots space.now) cpu.now address access entry) }
+    ensures fits { IfSome result (IsInside (S.slots space.now)) }
+{
+    let mode = effective_mode(cpu, access);
+    if field::<10, 10>(entry) != 0 || !grants(cpu, mode, access, entry) {
+        return None;
+    }
+    let page = field::<20, 12>(entry) * 1024 + field::<12, 10>(address);
+    in_page(space, page, address, access)
+}
+
+// The address of the byte in a page of 22 bits, where the machine has that page.
+#[inline(always)]
+fn in_page<S: Space>(space: &S, page: u32, address: u32, access: Access) -> Option<u64>
+    requires { page < 2 ^ 22 }
+    ensures walks { IsFound result (located (S.slots space.now) page address access) }
+    ensures fits { IfSome result (IsInside (S.slots space.now)) }
+{
+    if page < space.pages() {
+        Some(u64::from(page) * 4096 + u64::from(address % 4096))
     } else {
         None
     }

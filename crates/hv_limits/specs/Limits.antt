@@ -3,11 +3,11 @@ use Rattle.std.specs.Prelude.{ℕ}
 
 -- at how deep a level a machine can be
 abbrev pub depth_limit : ℕ
-depth_limit = 8
+depth_limit = 12
 
 -- how many harts the bare machine can have
 abbrev pub harts_limit : ℕ
-harts_limit = 4
+harts_limit = 8
 
 -- The lines from outside among the bits of mip: the software, timer and external interrupts of M, bits 3, 7 and 11.
 -- (Privileged Architecture, section 3.1.9: these bits can't be written by instructions.)

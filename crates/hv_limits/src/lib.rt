@@ -5,13 +5,13 @@ ghost use Rattle.std.specs.Prelude.{◌≡◌, ◌+◌};
 ghost use Rattle.hv_limits.specs.Limits.{depth_limit, harts_limit, lines_mask, pages_limit, steps_limit, events_limit, kept_limit, input_limit};
 
 /// At how deep a level a machine can be: a path has at most as many syllables.
-pub const DEPTH: usize = 8;
+pub const DEPTH: usize = 12;
 
 /// How many levels there are, from the bare machine's, 0, to the deepest.
 pub const LEVELS: usize = DEPTH + 1;
 
 /// How many harts the bare machine can have.
-pub const HARTS: usize = 4;
+pub const HARTS: usize = 8;
 
 /// The interrupt lines from outside: MSI, MTI and MEI, bits 3, 7 and 11 of mip.
 pub const LINES: u32 = 0x888;

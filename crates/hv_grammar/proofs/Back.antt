@@ -11,18 +11,20 @@ use Rattle.hv_lex.specs.Lines.{lines_of}
 use Rattle.hv_samples.specs.Samples.{sample_text}
 use Rattle.hv_samples.specs.declared.choice.Sample.{Sample}
 use Rattle.hv_line.specs.Commands.{command_of, join_words_of}
-use Rattle.hv_line.specs.JobLimits.{job_breaks, job_commands, job_harts}
-use Rattle.hv_line.specs.Lines.{begins_with, has_words, is_allowed, is_header, words_of}
+use Rattle.hv_line.specs.JobLimits.{harts_in, job_breaks, job_commands, job_harts}
+use Rattle.hv_line.specs.Lines.{begins_with, has_words, is_allowed, words_of}
 use Rattle.hv_line.specs.declared.kinds.JobKind.{JobKind}
 use Rattle.hv_line.specs.declared.kinds.JobKind.TheVariants as fault
+use Rattle.hv_line.proofs.Versions.{harts_within}
 use Rattle.hv_line.specs.declared.types.DebugCommand.{DebugCommand}
 use Rattle.hv_line.specs.declared.types.Directive.{Directive}
 use Rattle.hv_line.specs.declared.types.Directive.TheVariants as directive
 use Rattle.hv_job.specs.Commands.{commands_from, commands_then, commands_with, is_over, line_commands, new_commands}
 use Rattle.hv_job.specs.IsJob.{breaks_in}
-use Rattle.hv_job.specs.JobOf.{before_end, begins_image, behind_storage, body_from, directive_with, draft_of, event_with, harts_with, header_from, image_lines_with, image_of, image_with, image_words, is_debug, job_in, job_of, job_with, line_with, lines_with, sample_with, schedule_with, storage_from, words_with}
+use Rattle.hv_job.specs.JobOf.{before_end, begins_image, behind_header, behind_storage, body_from, directive_with, draft_of, event_with, harts_with, header_from, image_lines_with, image_of, image_with, image_words, is_debug, job_in, job_of, job_with, line_with, lines_with, sample_with, schedule_with, storage_from, words_with}
 use Rattle.hv_job.specs.declared.job.DebugLine.{DebugLine as Command}
 use Rattle.hv_job.specs.declared.job.Job.{Job}
+use Rattle.hv_line.specs.declared.version.JobVersion.{JobVersion}
 use Rattle.hv_grammar.specs.Forms.{Form, IsInRange, IsLine, Harts, Image, Sampled, Turn, Lines}
 use Rattle.hv_grammar.specs.Said.{AreAssembled, Said, Called, Directed, Inner, Nothing, StorageOf, FormAssembles, assembled, commands_by, commands_said, events_by, inner_lines, job_said, on_line, placed_by}
 use Rattle.hv_grammar.specs.Texts.{GoesOn, IsAllowed, IsAlone, IsOver, IsPlain, IsTold, JobTextLaw, Place, AmongCommands, AmongDirectives, BeforeHeader, BeforeStorage, InsideImage}
@@ -34,63 +36,64 @@ use Rattle.hv_grammar.proofs.Late.{begins_it, blank_begins, blank_has, blank_not
 use Rattle.hv_grammar.proofs.Means.{form_means, is_image_form, storage_means}
 use Rattle.hv_grammar.proofs.Room.{Room, few, room_command, room_next, schedulable}
 use Rattle.hv_grammar.proofs.Saying.{SaidWay, inner_is, said_way}
+use Rattle.hv_grammar.proofs.Steps.{header_is}
 use Rattle.hv_grammar.proofs.Telling.{SaysThis, Told, does_says, harts_count, place_in, skipped as tells_nothing}
 use Rattle.hv_grammar.proofs.Through.{AreCommands, IsBehind, accepted, body_good, commanded, debugged, nothing_behind, skipped, told_step}
 use Rattle.hv_grammar.proofs.Ways.{IsBlank, ends_at, goes_not, is_debugged, is_ended, not_begun, not_debug, some_call, some_pages, some_words}
 use Rattle.hv_lex.specs.Refusing.{◌>>=◌, at_line}
 
 -- the commands
-abbrev CommandsRead : List Command → ℕ → List (List ℕ) → List Said → Type 0
-CommandsRead commands n lines says = (all : List Command) × (commands_from commands n lines ≡ Ok all) × AreCommands commands n all says
+abbrev CommandsRead : JobVersion → List Command → ℕ → List (List ℕ) → List Said → Type 0
+CommandsRead version commands n lines says = (all : List Command) × (commands_from version commands n lines ≡ Ok all) × AreCommands commands n all says
 
-module _ (line : List ℕ) (lines : List (List ℕ)) (says : List Said) (n : ℕ) (commands : List Command) where
-  command_blank : IsBlank line → CommandsRead commands (n + 1) lines says → CommandsRead commands n (line ∷ lines) (Nothing ∷ says)
+module _ (version : JobVersion) (line : List ℕ) (lines : List (List ℕ)) (says : List Said) (n : ℕ) (commands : List Command) where
+  command_blank : IsBlank line → CommandsRead version commands (n + 1) lines says → CommandsRead version commands n (line ∷ lines) (Nothing ∷ says)
   unfolding commands_from line_commands skipped
   command_blank w rest =
       let M = λ (r : Result (List Command) JobKind). r ≡ Ok commands in
-      let e : line_commands commands n line ≡ Ok commands =
+      let e : line_commands version commands n line ≡ Ok commands =
       holds M (is_allowed line) _ _ w.0 (fails M (has_words line) _ _ (blank_has line w.1) refl)
       in
-      (rest.0, ap (λ r. commands_then n r (λ next. commands_from next (n + 1) lines)) e ∙ rest.1, (skipped commands commands n line w.0 w.1 refl).more rest.0 says rest.2)
+      (rest.0, ap (λ r. commands_then n r (λ next. commands_from version next (n + 1) lines)) e ∙ rest.1, (skipped version commands commands n line w.0 w.1 refl).more rest.0 says rest.2)
 
-  command_said : (what : DebugCommand) → IsAllowed line → has_words line ≡ true → command_of (words_of line) ≡ Ok what → is_over commands what ≡ false → CommandsRead (commands_with commands n (join_words_of (words_of line)) what) (n + 1) lines says → CommandsRead commands n (line ∷ lines) (Called (words_of line) what ∷ says)
+  command_said : (what : DebugCommand) → IsAllowed line → has_words line ≡ true → command_of version (words_of line) ≡ Ok what → is_over commands what ≡ false → CommandsRead version (commands_with commands n (join_words_of (words_of line)) what) (n + 1) lines says → CommandsRead version commands n (line ∷ lines) (Called (words_of line) what ∷ says)
   unfolding commands_from line_commands commanded
   command_said what allowed some is room rest =
       let next = commands_with commands n (join_words_of (words_of line)) what in
       let M = λ (r : Result (List Command) JobKind). r ≡ Ok next in
-      let e : line_commands commands n line ≡ Ok next =
+      let e : line_commands version commands n line ≡ Ok next =
       holds M (is_allowed line) _ _ allowed (holds M (has_words line) _ _ some
       (ap (λ (r : Result DebugCommand JobKind). r >>= new_commands commands n (words_of line)) is
       ∙ ap (λ b. let r : Result (List Command) JobKind = cond b (Err fault.Many) (Ok next) in r) room))
       in
-      (rest.0, ap (λ r. commands_then n r (λ next. commands_from next (n + 1) lines)) e ∙ rest.1, (commanded commands next n line what allowed is refl).more rest.0 says rest.2)
+      (rest.0, ap (λ r. commands_then n r (λ next. commands_from version next (n + 1) lines)) e ∙ rest.1, (commanded version commands next n line what allowed is refl).more rest.0 says rest.2)
 
 abbrev FitCommands : List Command → ℕ → List Said → Type 0
 FitCommands commands n says = (length (commands ++ commands_said n says) ≤ job_commands) × (breaks_in (commands ++ commands_said n says) ≤ job_breaks)
 
-module _ (line : List ℕ) (lines : List (List ℕ)) (says : List Said) (to : Place) (n : ℕ) (commands : List Command) (rest : (commands : List Command) → GoesOn AmongCommands lines says to → FitCommands commands (n + 1) says → CommandsRead commands (n + 1) lines says) where
-  command_step : (said : Said) (next : Place) → SaidWay AmongCommands line said next → GoesOn next lines says to → FitCommands commands n (said ∷ says) → CommandsRead commands n (line ∷ lines) (said ∷ says)
+module _ (version : JobVersion) (line : List ℕ) (lines : List (List ℕ)) (says : List Said) (to : Place) (n : ℕ) (commands : List Command) (rest : (commands : List Command) → GoesOn (AmongCommands version) lines says to → FitCommands commands (n + 1) says → CommandsRead version commands (n + 1) lines says) where
+  command_step : (said : Said) (next : Place) → SaidWay (AmongCommands version) line said next → GoesOn next lines says to → FitCommands commands n (said ∷ says) → CommandsRead version commands n (line ∷ lines) (said ∷ says)
   command_step said next (inl w) on fit =
       let f : FitCommands commands n (Nothing ∷ says) = subst (λ s. FitCommands commands n (s ∷ says)) w.1 fit in
-      subst (λ s. CommandsRead commands n (line ∷ lines) (s ∷ says)) (sym w.1)
-      (command_blank line lines says n commands w.0 (rest commands (subst (λ (p : Place). GoesOn p lines says to) w.2 on) f))
+      subst (λ s. CommandsRead version commands n (line ∷ lines) (s ∷ says)) (sym w.1)
+      (command_blank version line lines says n commands w.0 (rest commands (subst (λ (p : Place). GoesOn p lines says to) w.2 on) f))
   command_step said next (inr w) on fit =
       let words = join_words_of (words_of line) in
       let f : FitCommands commands n (Called (words_of line) w.0 ∷ says) = subst (λ s. FitCommands commands n (s ∷ says)) w.3 fit in
       let a : commands_with commands n words w.0 ++ commands_said (n + 1) says ≡ commands ++ record { line = n; words = words; what = w.0 } ∷ commands_said (n + 1) says = append_assoc commands (record { line = n; words = words; what = w.0 } ∷ []) (commands_said (n + 1) says) in
-      subst (λ s. CommandsRead commands n (line ∷ lines) (s ∷ says)) (sym w.3)
-      (command_said line lines says n commands w.0 w.1 (some_call line w.0 w.2) ((commands_are_calls (words_of line) w.0).1 w.2)
+      subst (λ s. CommandsRead version commands n (line ∷ lines) (s ∷ says)) (sym w.3)
+      (command_said version line lines says n commands w.0 w.1 (some_call version line w.0 w.2) ((commands_are_calls version (words_of line) w.0).1 w.2)
       (room_command commands n words w.0 (commands_said (n + 1) says) f.0 f.1)
       (rest (commands_with commands n words w.0) (subst (λ (p : Place). GoesOn p lines says to) w.4 on)
       (subst (λ (cs : List Command). length cs ≤ job_commands) (sym a) f.0, subst (λ (cs : List Command). breaks_in cs ≤ job_breaks) (sym a) f.1)))
 
-commands_read : (lines : List (List ℕ)) (says : List Said) (to : Place) (n : ℕ) (commands : List Command) → GoesOn AmongCommands lines says to → FitCommands commands n says → CommandsRead commands n lines says
+commands_read : (version : JobVersion) (lines : List (List ℕ)) (says : List Said) (to : Place) (n : ℕ) (commands : List Command) → GoesOn (AmongCommands version) lines says to → FitCommands commands n says → CommandsRead version commands n lines says
 unfolding commands_from
-commands_read [] [] to n commands on fit = (commands, refl, record { is = sym (append-nil commands); placed = refl; events = refl; harts = refl; counted = refl; assembled = tt })
-commands_read [] (said ∷ says) to n commands on fit = absurd on
-commands_read (line ∷ lines) [] to n commands on fit = absurd on
-commands_read (line ∷ lines) (said ∷ says) to n commands on fit =
-    command_step line lines says to n commands (λ next. commands_read lines says to (n + 1) next) said on.0 (said_way AmongCommands line said on.0 on.1) on.2 fit
+commands_read version [] [] to n commands on fit = (commands, refl, record { is = sym (append-nil commands); placed = refl; events = refl; harts = refl; counted = refl; assembled = tt })
+commands_read version [] (said ∷ says) to n commands on fit = absurd on
+commands_read version (line ∷ lines) [] to n commands on fit = absurd on
+commands_read version (line ∷ lines) (said ∷ says) to n commands on fit =
+    command_step version line lines says to n commands (λ next. commands_read version lines says to (n + 1) next) said on.0 (said_way (AmongCommands version) line said on.0 on.1) on.2 fit
 
 -- a directive is done
 abbrev DoneKind : Result Draft JobKind → Type 0
@@ -105,6 +108,9 @@ done_at n r done = (done.0, ap (at_line n) done.1)
 harts_done : (draft : Draft) (harts : ℕ) (o : Option ℕ) → harts_count o ≡ 0 → DoneKind (harts_with draft harts o)
 harts_done draft harts None none = (record draft { harts = Some harts }, refl)
 harts_done draft harts (Some before) none = cc
+
+some_hart : (version : JobVersion) (hart : ℕ) → hart < harts_in version → hart < job_harts
+some_hart version hart below = let h : harts_in version ≤ job_harts = harts_within version in omega (arith, below, h)
 
 module _ (draft : Draft) (n : ℕ) (says : List Said) where
   directive_done : (said : Said) (what : Directive) → placed_by n said says ≡ record { line = n; what = what } ∷ [] → Room draft n (said ∷ says) → DoneKind (directive_with draft n what)
@@ -136,15 +142,15 @@ module _ (draft : Draft) (n : ℕ) (says : List Said) where
       subst (λ o. DoneAt (image_of draft n name at (before_end lines) o)) (sym ends.is)
       (image_words_done name at lines ends.last (n + 1 + length (before_end lines)) (image_words at (before_end lines)) inner refl (ap (λ ls. is_ok (image_words at ls)) (sym inner) ∙ ok) ends.allowed room)
 
-  form_done : (lines : List (List ℕ)) (form : Form) → IsPlain form → IsInRange form → Room draft n (Directed form ∷ says) → FormAssembles form says → DoneAt (does draft n lines form)
+  form_done : (lines : List (List ℕ)) (form : Form) → IsPlain form → IsInRange draft.version form → Room draft n (Directed form ∷ says) → FormAssembles form says → DoneAt (does draft n lines form)
   form_done lines (Image name at) plain range room ok = absurd plain
   form_done lines (Harts harts) plain range room ok =
       let h : harts_count draft.harts + harts_lines (Directed (Harts harts) ∷ says) ≤ 1 = room.harts in
       done_at n _ (harts_done draft harts draft.harts (omega (arith, h)))
   form_done lines (Sampled name at which) plain range room ok = done_at n _ (sample_done name at which (asm_of (sample_text which) at) refl ok room)
-  form_done lines (Turn hart count) plain range room ok = done_at n _ (event_done (Directed (Turn hart count)) (event.Turn hart count) refl range.0 refl room)
+  form_done lines (Turn hart count) plain range room ok = done_at n _ (event_done (Directed (Turn hart count)) (event.Turn hart count) refl (some_hart draft.version hart range.0) refl room)
   form_done lines (Lines hart mask) plain range room ok =
-      done_at n _ (event_done (Directed (Lines hart mask)) (event.Lines hart mask) refl range.0 (eq-eqb _ _ range.1) room)
+      done_at n _ (event_done (Directed (Lines hart mask)) (event.Lines hart mask) refl (some_hart draft.version hart range.0) (eq-eqb _ _ range.1) room)
   form_done lines form plain range room ok = done_at n _ (directive_done (Directed form) _ refl room)
 
 -- what is said has its room, and is assembled
@@ -171,7 +177,7 @@ holds_next draft n said says none no_lines no_events no_commands held = record {
 }
 
 abbrev Rest : List (List ℕ) → List Said → Place → Type 0
-Rest lines says to = (draft : Draft) (inside : Bool) (n : ℕ) → GoesOn (place_in inside) lines says to → Holds draft n says → Reads draft inside lines n says
+Rest lines says to = (draft : Draft) (inside : Bool) (n : ℕ) → GoesOn (place_in draft.version inside) lines says to → Holds draft n says → Reads draft inside lines n says
 
 module _ (line : List ℕ) (lines : List (List ℕ)) (says : List Said) (to : Place) (draft : Draft) (n : ℕ) where
   -- inside an image
@@ -205,7 +211,7 @@ module _ (line : List ℕ) (lines : List (List ℕ)) (says : List Said) (to : Pl
         };
       }
 
-  inside_read : (said : Said) (next : Place) → Rest lines says to → SaidWay InsideImage line said next → GoesOn next lines says to → Holds draft n (said ∷ says) → Reads draft true (line ∷ lines) n (said ∷ says)
+  inside_read : (said : Said) (next : Place) → Rest lines says to → SaidWay (InsideImage draft.version) line said next → GoesOn next lines says to → Holds draft n (said ∷ says) → Reads draft true (line ∷ lines) n (said ∷ says)
   inside_read said next rest (inl w) on held =
       let h : Holds draft n (Inner line ∷ says) = subst (λ s. Holds draft n (s ∷ says)) w.1 held in
       subst (λ s. Reads draft true (line ∷ lines) n (s ∷ says)) (sym w.1)
@@ -216,27 +222,27 @@ module _ (line : List ℕ) (lines : List (List ℕ)) (says : List Said) (to : Pl
       (end_read w.1 (rest draft false (n + 1) (subst (λ (p : Place). GoesOn p lines says to) w.3 on) (holds_next draft n Nothing says refl refl refl refl h)))
 
   -- among the directives
-  line_read : (said : Said) (next : Draft) (image : Bool) → is_debug line ≡ false → begins_image line ≡ image → line_with draft n line lines ≡ Ok next → Told draft n line lines image said next → Reads next image lines (n + 1) says → Reads draft false (line ∷ lines) n (said ∷ says)
+  line_read : (said : Said) (next : Draft) (image : Bool) → is_debug line ≡ false → begins_image draft.version line ≡ image → line_with draft n line lines ≡ Ok next → Told draft n line lines image said next → Reads next image lines (n + 1) says → Reads draft false (line ∷ lines) n (said ∷ says)
   unfolding body_from
   line_read said next image other begins made told rest = record {
     job = rest.job;
     is =
-        ap (λ b. cond b (job_with draft (commands_from [] (n + 1) lines)) ((line_with draft n line lines) >>= (λ next. body_from next (begins_image line) (n + 1) lines))) other
-        ∙ ap (λ r. (r >>= (λ next. body_from next (begins_image line) (n + 1) lines))) made
+        ap (λ b. cond b (job_with draft (commands_from draft.version [] (n + 1) lines)) ((line_with draft n line lines) >>= (λ next. body_from next (begins_image draft.version line) (n + 1) lines))) other
+        ∙ ap (λ r. (r >>= (λ next. body_from next (begins_image draft.version line) (n + 1) lines))) made
         ∙ ap (λ b. body_from next b (n + 1) lines) begins ∙ rest.is;
     behind = told_step line lines (body_good lines) draft n image next said told rest.job says rest.behind;
   }
 
-  line_form : (form : Form) → IsAllowed line → IsLine (words_of line) form → line_with draft n line lines ≡ does draft n lines form
+  line_form : (form : Form) → IsAllowed line → IsLine draft.version (words_of line) form → line_with draft n line lines ≡ does draft n lines form
   unfolding line_with
   line_form form allowed is =
       let M = λ (r : Result Draft (ℕ × JobKind)). r ≡ does draft n lines form in
       holds M (is_allowed line) _ _ allowed (
-      holds M (has_words line) _ _ (some_words line form is) (
+      holds M (has_words line) _ _ (some_words draft.version line form is) (
       no_first M (begins_with (codes "debug") (words_of line)) _ _ (not_begun form (words_of line) is.written) (
-      ap (words_with draft n lines) (form_means form (words_of line) is))))
+      ap (words_with draft n lines) (form_means draft.version form (words_of line) is))))
 
-  told_is : (form : Form) (next : Draft) → IsAllowed line → IsLine (words_of line) form → does draft n lines form ≡ Ok next → Told draft n line lines (is_image_form form) (Directed form) next
+  told_is : (form : Form) (next : Draft) → IsAllowed line → IsLine draft.version (words_of line) form → does draft n lines form ≡ Ok next → Told draft n line lines (is_image_form form) (Directed form) next
   told_is form next allowed is made = subst (SaysThis draft n line lines (is_image_form form) (Directed form)) made (does_says draft n line lines form allowed is)
 
   -- what is left holds behind a directive
@@ -247,12 +253,16 @@ module _ (line : List ℕ) (lines : List (List ℕ)) (says : List Said) (to : Pl
     commands = held.commands;
   }
 
-  debug_read : IsAllowed line → IsAlone (codes "debug") line → CommandsRead [] (n + 1) lines says → Reads draft false (line ∷ lines) n (Nothing ∷ says)
+  -- the version stays
+  goes_from : (next : Draft) (image : Bool) → next.version ≡ draft.version → GoesOn (place_in draft.version image) lines says to → GoesOn (place_in next.version image) lines says to
+  goes_from next image same on = subst (λ (v : JobVersion). GoesOn (place_in v image) lines says to) (sym same) on
+
+  debug_read : IsAllowed line → IsAlone (codes "debug") line → CommandsRead draft.version [] (n + 1) lines says → Reads draft false (line ∷ lines) n (Nothing ∷ says)
   unfolding body_from
   debug_read allowed alone rest = record {
     job = job_in draft rest.0;
     is =
-        ap (λ b. cond b (job_with draft (commands_from [] (n + 1) lines)) ((line_with draft n line lines) >>= (λ next. body_from next (begins_image line) (n + 1) lines))) (is_debugged line allowed alone)
+        ap (λ b. cond b (job_with draft (commands_from draft.version [] (n + 1) lines)) ((line_with draft n line lines) >>= (λ next. body_from next (begins_image draft.version line) (n + 1) lines))) (is_debugged line allowed alone)
         ∙ ap (job_with draft) rest.1;
     behind = debugged draft n line lines rest.0 says rest.2;
   }
@@ -263,7 +273,7 @@ module _ (line : List ℕ) (lines : List (List ℕ)) (says : List Said) (to : Pl
       let M = λ (r : Result Draft (ℕ × JobKind)). r ≡ Ok draft in
       holds M (is_allowed line) _ _ w.0 (fails M (has_words line) _ _ (blank_has line w.1) refl)
 
-  directive_read : (said : Said) (next : Place) → IsOver to → Rest lines says to → SaidWay AmongDirectives line said next → GoesOn next lines says to → Holds draft n (said ∷ says) → Reads draft false (line ∷ lines) n (said ∷ says)
+  directive_read : (said : Said) (next : Place) → IsOver to → Rest lines says to → SaidWay (AmongDirectives draft.version) line said next → GoesOn next lines says to → Holds draft n (said ∷ says) → Reads draft false (line ∷ lines) n (said ∷ says)
   directive_read said next over rest (inl w) on held =
       let h : Holds draft n (Nothing ∷ says) = subst (λ s. Holds draft n (s ∷ says)) w.1 held in
       let begins = blank_begins draft n line lines w.0.1 in
@@ -278,21 +288,21 @@ module _ (line : List ℕ) (lines : List (List ℕ)) (says : List Said) (to : Pl
       let told : Told draft n line lines false (Directed w.0) d.0 = subst (λ b. Told draft n line lines b (Directed w.0) d.0) plain (told_is w.0 d.0 w.2 w.3 d.1) in
       subst (λ s. Reads draft false (line ∷ lines) n (s ∷ says)) (sym w.4)
       (line_read (Directed w.0) d.0 false (not_debug line (not_begun w.0 (words_of line) w.3.written)) (begins_it draft n line lines w.0 w.3 ∙ plain) (line_form w.0 w.2 w.3 ∙ d.1) told
-      (rest d.0 false (n + 1) (subst (λ (p : Place). GoesOn p lines says to) w.5 on) (holds_behind w.0 d.0 false (λ image. cc) told h)))
+      (rest d.0 false (n + 1) (goes_from d.0 false told.version (subst (λ (p : Place). GoesOn p lines says to) w.5 on)) (holds_behind w.0 d.0 false (λ image. cc) told h)))
   directive_read said next over rest (inr (inr (inl w))) on held =
       let form = Image w.0 w.1 in
       let h : Holds draft n (Directed (Image w.0 w.1) ∷ says) = subst (λ s. Holds draft n (s ∷ says)) w.4 held in
-      let goes : GoesOn InsideImage lines says to = subst (λ (p : Place). GoesOn p lines says to) w.5 on in
-      let inner = inner_is lines says to over goes in
-      let d = image_done draft n says w.0 w.1 lines (ends_at lines says to over goes) inner h.assembled.0 h.room in
+      let goes : GoesOn (InsideImage draft.version) lines says to = subst (λ (p : Place). GoesOn p lines says to) w.5 on in
+      let inner = inner_is draft.version lines says to over goes in
+      let d = image_done draft n says w.0 w.1 lines (ends_at draft.version lines says to over goes) inner h.assembled.0 h.room in
       let told : Told draft n line lines true (Directed (Image w.0 w.1)) d.0 = told_is (Image w.0 w.1) d.0 w.2 w.3 d.1 in
       subst (λ s. Reads draft false (line ∷ lines) n (s ∷ says)) (sym w.4)
       (line_read (Directed (Image w.0 w.1)) d.0 true (not_debug line (not_begun (Image w.0 w.1) (words_of line) w.3.written)) (begins_it draft n line lines (Image w.0 w.1) w.3) (line_form (Image w.0 w.1) w.2 w.3 ∙ d.1) told
-      (rest d.0 true (n + 1) goes (holds_behind (Image w.0 w.1) d.0 true (λ image. inner) told h)))
+      (rest d.0 true (n + 1) (goes_from d.0 true told.version goes) (holds_behind (Image w.0 w.1) d.0 true (λ image. inner) told h)))
   directive_read said next over rest (inr (inr (inr w))) on held =
       let h : Holds draft n (Nothing ∷ says) = subst (λ s. Holds draft n (s ∷ says)) w.2 held in
       subst (λ s. Reads draft false (line ∷ lines) n (s ∷ says)) (sym w.2)
-      (debug_read w.0 w.1 (commands_read lines says to (n + 1) [] (subst (λ (p : Place). GoesOn p lines says to) w.3 on) h.commands))
+      (debug_read w.0 w.1 (commands_read draft.version lines says to (n + 1) [] (subst (λ (p : Place). GoesOn p lines says to) w.3 on) h.commands))
 
 body_read : (lines : List (List ℕ)) (says : List Said) (to : Place) → IsOver to → Rest lines says to
 unfolding body_from
@@ -305,60 +315,66 @@ body_read [] [] to over draft false n on held = record {
 body_read [] (said ∷ says) to over draft inside n on held = absurd on
 body_read (line ∷ lines) [] to over draft inside n on held = absurd on
 body_read (line ∷ lines) (said ∷ says) to over draft true n on held =
-    inside_read line lines says to draft n said on.0 (body_read lines says to over) (said_way InsideImage line said on.0 on.1) on.2 held
+    inside_read line lines says to draft n said on.0 (body_read lines says to over) (said_way (InsideImage draft.version) line said on.0 on.1) on.2 held
 body_read (line ∷ lines) (said ∷ says) to over draft false n on held =
-    directive_read line lines says to draft n said on.0 over (body_read lines says to over) (said_way AmongDirectives line said on.0 on.1) on.2 held
+    directive_read line lines says to draft n said on.0 over (body_read lines says to over) (said_way (AmongDirectives draft.version) line said on.0 on.1) on.2 held
 
 -- the lines from the header or the storage on are read as the job that they say
 abbrev SaidJob : ℕ → List Said → Result Job (ℕ × JobKind) → Type 0
 SaidJob n says r = (job : Job) × (r ≡ Ok job) × (job ≡ job_said n says)
 
-module _ (line : List ℕ) (lines : List (List ℕ)) (says : List Said) (to : Place) (n : ℕ) where
-  storage_step : (said : Said) (next : Place) → IsOver to → (GoesOn BeforeStorage lines says to → Holds (draft_of 0) (n + 1) says → SaidJob (n + 1) says (storage_from (n + 1) lines)) → SaidWay BeforeStorage line said next → GoesOn next lines says to → Holds (draft_of 0) n (said ∷ says) → SaidJob n (said ∷ says) (storage_from n (line ∷ lines))
+module _ (version : JobVersion) (line : List ℕ) (lines : List (List ℕ)) (says : List Said) (to : Place) (n : ℕ) where
+  storage_step : (said : Said) (next : Place) → IsOver to → (GoesOn (BeforeStorage version) lines says to → Holds (draft_of version 0) (n + 1) says → SaidJob (n + 1) says (storage_from version (n + 1) lines)) → SaidWay (BeforeStorage version) line said next → GoesOn next lines says to → Holds (draft_of version 0) n (said ∷ says) → SaidJob n (said ∷ says) (storage_from version n (line ∷ lines))
   unfolding storage_from
   storage_step said next over rest (inl w) on held =
-      let h : Holds (draft_of 0) n (Nothing ∷ says) = subst (λ s. Holds (draft_of 0) n (s ∷ says)) w.1 held in
-      let r = rest (subst (λ (p : Place). GoesOn p lines says to) w.2 on) (holds_next (draft_of 0) n Nothing says refl refl refl refl h) in
+      let h : Holds (draft_of version 0) n (Nothing ∷ says) = subst (λ s. Holds (draft_of version 0) n (s ∷ says)) w.1 held in
+      let r = rest (subst (λ (p : Place). GoesOn p lines says to) w.2 on) (holds_next (draft_of version 0) n Nothing says refl refl refl refl h) in
       let M = λ (x : Result Job (ℕ × JobKind)). x ≡ Ok r.0 in
       let skip : r.0 ≡ job_said n (Nothing ∷ says) = r.2 in
       (r.0, holds M (is_allowed line) _ _ w.0.0 (fails M (has_words line) _ _ (blank_has line w.0.1) r.1), subst (λ s. r.0 ≡ job_said n (s ∷ says)) (sym w.1) skip)
   storage_step said next over rest (inr w) on held =
-      let h : Holds (draft_of 0) n (StorageOf w.0 ∷ says) = subst (λ s. Holds (draft_of 0) n (s ∷ says)) w.3 held in
-      let k : Holds (draft_of w.0) (n + 1) says = record {
+      let h : Holds (draft_of version 0) n (StorageOf w.0 ∷ says) = subst (λ s. Holds (draft_of version 0) n (s ∷ says)) w.3 held in
+      let k : Holds (draft_of version w.0) (n + 1) says = record {
         assembled = h.assembled.1;
-        room = room_next (draft_of 0) (draft_of w.0) n (StorageOf w.0) says refl refl refl h.room;
+        room = room_next (draft_of version 0) (draft_of version w.0) n (StorageOf w.0) says refl refl refl h.room;
         commands = h.commands;
       } in
-      let r = body_read lines says to over (draft_of w.0) false (n + 1) (subst (λ (p : Place). GoesOn p lines says to) w.4 on) k in
+      let r = body_read lines says to over (draft_of version w.0) false (n + 1) (subst (λ (p : Place). GoesOn p lines says to) w.4 on) k in
       let M = λ (x : Result Job (ℕ × JobKind)). x ≡ Ok r.job in
       let stored : r.job ≡ job_said n (StorageOf w.0 ∷ says) = r.behind.is in
-      (r.job, holds M (is_allowed line) _ _ w.1 (holds M (has_words line) _ _ (some_pages line w.0 w.2) (ap (behind_storage n lines) (storage_means w.0 (words_of line) w.2) ∙ r.is)), subst (λ s. r.job ≡ job_said n (s ∷ says)) (sym w.3) stored)
+      (r.job, holds M (is_allowed line) _ _ w.1 (holds M (has_words line) _ _ (some_pages line w.0 w.2) (ap (behind_storage version n lines) (storage_means w.0 (words_of line) w.2) ∙ r.is)), subst (λ s. r.job ≡ job_said n (s ∷ says)) (sym w.3) stored)
 
-storage_read : (lines : List (List ℕ)) (says : List Said) (to : Place) (n : ℕ) → IsOver to → GoesOn BeforeStorage lines says to → Holds (draft_of 0) n says → SaidJob n says (storage_from n lines)
-storage_read [] [] to n over on held = absurd (subst IsOver (sym on) over)
-storage_read [] (said ∷ says) to n over on held = absurd on
-storage_read (line ∷ lines) [] to n over on held = absurd on
-storage_read (line ∷ lines) (said ∷ says) to n over on held =
-    storage_step line lines says to n said on.0 over (storage_read lines says to (n + 1) over) (said_way BeforeStorage line said on.0 on.1) on.2 held
+storage_read : (version : JobVersion) (lines : List (List ℕ)) (says : List Said) (to : Place) (n : ℕ) → IsOver to → GoesOn (BeforeStorage version) lines says to → Holds (draft_of version 0) n says → SaidJob n says (storage_from version n lines)
+storage_read version [] [] to n over on held = absurd (subst IsOver (sym on) over)
+storage_read version [] (said ∷ says) to n over on held = absurd on
+storage_read version (line ∷ lines) [] to n over on held = absurd on
+storage_read version (line ∷ lines) (said ∷ says) to n over on held =
+    storage_step version line lines says to n said on.0 over (storage_read version lines says to (n + 1) over) (said_way (BeforeStorage version) line said on.0 on.1) on.2 held
+
+-- before the header no version is known yet
+abbrev HoldsFirst : ℕ → List Said → Type 0
+HoldsFirst n says = (version : JobVersion) → Holds (draft_of version 0) n says
 
 module _ (line : List ℕ) (lines : List (List ℕ)) (says : List Said) (to : Place) (n : ℕ) where
-  header_step : (said : Said) (next : Place) → IsOver to → (GoesOn BeforeHeader lines says to → Holds (draft_of 0) (n + 1) says → SaidJob (n + 1) says (header_from (n + 1) lines)) → SaidWay BeforeHeader line said next → GoesOn next lines says to → Holds (draft_of 0) n (said ∷ says) → SaidJob n (said ∷ says) (header_from n (line ∷ lines))
+  nothing_first : (said : Said) → said ≡ Nothing → HoldsFirst n (said ∷ says) → HoldsFirst (n + 1) says
+  nothing_first said none held version =
+      let h : Holds (draft_of version 0) n (Nothing ∷ says) = subst (λ s. Holds (draft_of version 0) n (s ∷ says)) none (held version) in
+      holds_next (draft_of version 0) n Nothing says refl refl refl refl h
+
+  header_step : (said : Said) (next : Place) → IsOver to → (GoesOn BeforeHeader lines says to → HoldsFirst (n + 1) says → SaidJob (n + 1) says (header_from (n + 1) lines)) → SaidWay BeforeHeader line said next → GoesOn next lines says to → HoldsFirst n (said ∷ says) → SaidJob n (said ∷ says) (header_from n (line ∷ lines))
   unfolding header_from
   header_step said next over rest (inl w) on held =
-      let h : Holds (draft_of 0) n (Nothing ∷ says) = subst (λ s. Holds (draft_of 0) n (s ∷ says)) w.1 held in
-      let r = rest (subst (λ (p : Place). GoesOn p lines says to) w.2 on) (holds_next (draft_of 0) n Nothing says refl refl refl refl h) in
+      let r = rest (subst (λ (p : Place). GoesOn p lines says to) w.2 on) (nothing_first said w.1 held) in
       let M = λ (x : Result Job (ℕ × JobKind)). x ≡ Ok r.0 in
       let skip : r.0 ≡ job_said n (Nothing ∷ says) = r.2 in
       (r.0, holds M (is_allowed line) _ _ w.0.0 (fails M (has_words line) _ _ (blank_has line w.0.1) r.1), subst (λ s. r.0 ≡ job_said n (s ∷ says)) (sym w.1) skip)
   header_step said next over rest (inr w) on held =
-      let h : Holds (draft_of 0) n (Nothing ∷ says) = subst (λ s. Holds (draft_of 0) n (s ∷ says)) w.2 held in
-      let r = storage_read lines says to (n + 1) over (subst (λ (p : Place). GoesOn p lines says to) w.3 on) (holds_next (draft_of 0) n Nothing says refl refl refl refl h) in
+      let r = storage_read w.0 lines says to (n + 1) over (subst (λ (p : Place). GoesOn p lines says to) w.4 on) (nothing_first said w.3 held w.0) in
       let M = λ (x : Result Job (ℕ × JobKind)). x ≡ Ok r.0 in
-      let head = headed line w.1 in
       let skip : r.0 ≡ job_said n (Nothing ∷ says) = r.2 in
-      (r.0, holds M (is_allowed line) _ _ w.0 (holds M (has_words line) _ _ head.0 (yes_first M (is_header (words_of line)) _ _ head.1 r.1)), subst (λ s. r.0 ≡ job_said n (s ∷ says)) (sym w.2) skip)
+      (r.0, holds M (is_allowed line) _ _ w.1 (holds M (has_words line) _ _ (headed line w.0 w.2) (ap (behind_header n lines) (header_is (words_of line) w.0 w.2) ∙ r.1)), subst (λ s. r.0 ≡ job_said n (s ∷ says)) (sym w.3) skip)
 
-header_read : (lines : List (List ℕ)) (says : List Said) (to : Place) (n : ℕ) → IsOver to → GoesOn BeforeHeader lines says to → Holds (draft_of 0) n says → SaidJob n says (header_from n lines)
+header_read : (lines : List (List ℕ)) (says : List Said) (to : Place) (n : ℕ) → IsOver to → GoesOn BeforeHeader lines says to → HoldsFirst n says → SaidJob n says (header_from n lines)
 header_read [] [] to n over on held = absurd (subst IsOver (sym on) over)
 header_read [] (said ∷ says) to n over on held = absurd on
 header_read (line ∷ lines) [] to n over on held = absurd on
@@ -366,8 +382,8 @@ header_read (line ∷ lines) (said ∷ says) to n over on held =
     header_step line lines says to n said on.0 over (header_read lines says to (n + 1) over) (said_way BeforeHeader line said on.0 on.1) on.2 held
 
 -- what is said within the limits has its room
-told_holds : (says : List Said) → AreAssembled says → IsWithinLimits says → Holds (draft_of 0) 1 says
-told_holds says assembled within =
+told_holds : (says : List Said) → AreAssembled says → IsWithinLimits says → HoldsFirst 1 says
+told_holds says assembled within version =
     let one : harts_lines says ≤ 1 = within.harts in
     record {
       assembled = assembled;

@@ -5,6 +5,7 @@ use Rattle.hv_asm.specs.Assembly.{and_then, line_words, place_of, words_from}
 use Rattle.hv_asm.specs.Operands.{read_of, size_of}
 use Rattle.hv_asm.specs.declared.AsmKind.{AsmKind}
 use Rattle.hv_job.specs.JobOf.{before_end, image_words, is_end}
+use Rattle.hv_line.specs.declared.version.JobVersion.{JobVersion}
 use Rattle.hv_grammar.proofs.Deeds.{domain_of}
 use Rattle.hv_grammar.specs.Said.{Inner}
 use Rattle.hv_grammar.specs.Texts.{GoesOn, InnerLine, InsideImage, IsAllowed}
@@ -39,20 +40,20 @@ pub before_next : (line : List ℕ) (lines : List (List ℕ)) → before_end (li
 before_next line lines = take_while-cons (λ line. not (is_end line)) line lines
 
 -- the lines before the end of an image stay inside it
-abbrev pub Within : List (List ℕ) → Type 0
-Within lines = GoesOn InsideImage lines (map Inner lines) InsideImage
+abbrev pub Within : JobVersion → List (List ℕ) → Type 0
+Within version lines = GoesOn (InsideImage version) lines (map Inner lines) (InsideImage version)
 
-next_goes : (j : ℕ) (line : List ℕ) (lines : List (List ℕ)) → (j ≤ length (before_end lines) → Within (take j lines)) → (b : Bool) → is_end line ≡ b → suc j ≤ length (cond (not b) (line ∷ before_end lines) []) → Within (take (suc j) (line ∷ lines))
-next_goes j line lines rest true is few = absurd (omega (arith, few))
-next_goes j line lines rest false is few =
+next_goes : (version : JobVersion) (j : ℕ) (line : List ℕ) (lines : List (List ℕ)) → (j ≤ length (before_end lines) → Within version (take j lines)) → (b : Bool) → is_end line ≡ b → suc j ≤ length (cond (not b) (line ∷ before_end lines) []) → Within version (take (suc j) (line ∷ lines))
+next_goes version j line lines rest true is few = absurd (omega (arith, few))
+next_goes version j line lines rest false is few =
     let h : suc j ≤ suc (length (before_end lines)) = few in
-    (InsideImage, InnerLine (goes_says line is), rest (omega (arith, h)))
+    (InsideImage version, InnerLine (goes_says line is), rest (omega (arith, h)))
 
-pub inner_goes : (j : ℕ) (lines : List (List ℕ)) → j ≤ length (before_end lines) → Within (take j lines)
-inner_goes zero lines few = refl
-inner_goes (suc j) [] few = absurd (omega (arith, few))
-inner_goes (suc j) (line ∷ lines) few =
-    next_goes j line lines (inner_goes j lines) (is_end line) refl
+pub inner_goes : (version : JobVersion) (j : ℕ) (lines : List (List ℕ)) → j ≤ length (before_end lines) → Within version (take j lines)
+inner_goes version zero lines few = refl
+inner_goes version (suc j) [] few = absurd (omega (arith, few))
+inner_goes version (suc j) (line ∷ lines) few =
+    next_goes version j line lines (inner_goes version j lines) (is_end line) refl
     (subst (λ ls. suc j ≤ length ls) (before_next line lines) few)
 
 next_few : (line : List ℕ) (lines : List (List ℕ)) → length (before_end lines) ≤ length lines → (b : Bool) → length (cond b (line ∷ before_end lines) []) ≤ length (line ∷ lines)

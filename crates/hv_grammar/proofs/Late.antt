@@ -12,8 +12,8 @@ use Rattle.hv_samples.specs.Samples.{sample_text}
 use Rattle.hv_line.specs.Statements.{statement_of}
 use Rattle.hv_line.specs.Commands.{join_words_of}
 use Rattle.hv_job.specs.Commands.{line_commands, commands_from, commands_then, commands_with, new_commands, is_over}
-use Rattle.hv_job.specs.JobOf.{asm_kind, before_end, begins_image, body_from, draft_of, event_with, schedule_with, harts_with, header_from, image_lines_with, image_of, image_with, image_words, is_debug, is_end, is_image, is_many, lines_with, job_of, job_with, line_with, directive_with, push_kind, sample_with, storage_from, behind_storage, words_with}
-use Rattle.hv_line.specs.Lines.{begins_with, has_words, is_allowed, is_header, words_of}
+use Rattle.hv_job.specs.JobOf.{asm_kind, before_end, begins_image, body_from, draft_of, event_with, schedule_with, harts_with, behind_header, header_from, image_lines_with, image_of, image_with, image_words, is_debug, is_end, is_image, is_many, lines_with, job_of, job_with, line_with, directive_with, push_kind, sample_with, storage_from, behind_storage, words_with}
+use Rattle.hv_line.specs.Lines.{begins_with, has_words, is_allowed, words_of}
 use Rattle.hv_line.specs.declared.kinds.JobKind.{JobKind}
 use Rattle.hv_line.specs.declared.kinds.JobKind.TheVariants as fault
 use Rattle.hv_line.specs.declared.types.Statement.{Statement}
@@ -22,14 +22,16 @@ use Rattle.hv_job.specs.declared.job.DebugLine.{DebugLine as Command}
 use Rattle.hv_line.specs.declared.types.Directive.{Directive}
 use Rattle.hv_line.specs.declared.types.Directive.TheVariants as directive
 use Rattle.hv_job.specs.declared.job.Job.{Job}
+use Rattle.hv_line.specs.declared.version.JobVersion.{JobVersion}
 use Rattle.hv_grammar.specs.Forms.{Form, IsLine, Harts, Image, Sampled, Turn, Lines}
 use Rattle.hv_grammar.specs.Said.{Said}
-use Rattle.hv_grammar.specs.Texts.{GoesOn, IsAllowed, IsLate, IsOver, IsPlain, Place, ThroughTextLaw, AmongCommands, AmongDirectives, BeforeHeader, BeforeStorage, InsideImage}
+use Rattle.hv_grammar.specs.Texts.{GoesOn, IsAllowed, IsLate, IsOver, IsPlain, Place, ThroughTextLaw, AmongCommands, AmongDirectives, BeforeHeader, BeforeStorage, InsideImage, version_word}
 use Rattle.hv_grammar.proofs.Calls.{commands_are_calls}
 use Rattle.hv_grammar.proofs.Deeds.{Draft, does}
 use Rattle.hv_grammar.proofs.Inside.{Ends}
 use Rattle.hv_grammar.proofs.Means.{form_means, is_image_form, storage_means}
-use Rattle.hv_grammar.proofs.Telling.{image_form, place_in}
+use Rattle.hv_grammar.proofs.Steps.{header_is}
+use Rattle.hv_grammar.proofs.Telling.{Says, image_form, line_says, place_in}
 use Rattle.hv_grammar.proofs.Ways.{IsBlank, Way, ends_at, goes_not, is_debugged, is_ended, not_begun, not_debug, some_call, some_pages, some_words, way}
 use Rattle.hv_lex.specs.Refusing.{◌>>=◌, at_line}
 
@@ -67,31 +69,31 @@ entered_late : (commands : List Command) (n : ℕ) (words : List (List ℕ)) (wh
 entered_late commands n words what true = tt
 entered_late commands n words what false = tt
 
-command_late : (commands : List Command) (n : ℕ) (line : List ℕ) (next : Place) → Way AmongCommands line next → LateKind (line_commands commands n line)
+command_late : (version : JobVersion) (commands : List Command) (n : ℕ) (line : List ℕ) (next : Place) → Way (AmongCommands version) line next → LateKind (line_commands version commands n line)
 unfolding line_commands
-command_late commands n line next (inl w) =
+command_late version commands n line next (inl w) =
     holds LateKind (is_allowed line) (Err fault.Byte) _ w.0.0 (fails LateKind (has_words line) (Ok commands) _ (blank_has line w.0.1) tt)
-command_late commands n line next (inr w) =
+command_late version commands n line next (inr w) =
     holds LateKind (is_allowed line) (Err fault.Byte) _ w.1 (
-    holds LateKind (has_words line) (Ok commands) _ (some_call line w.0 w.2) (
-    subst (λ (r : Result DebugCommand JobKind). LateKind (r >>= new_commands commands n (words_of line))) (sym ((commands_are_calls (words_of line) w.0).1 w.2)) (entered_late commands n (words_of line) w.0 (is_over commands w.0))))
+    holds LateKind (has_words line) (Ok commands) _ (some_call version line w.0 w.2) (
+    subst (λ (r : Result DebugCommand JobKind). LateKind (r >>= new_commands commands n (words_of line))) (sym ((commands_are_calls version (words_of line) w.0).1 w.2)) (entered_late commands n (words_of line) w.0 (is_over commands w.0))))
 
-to_commands : (line : List ℕ) (next : Place) → Way AmongCommands line next → next ≡ AmongCommands
-to_commands line next (inl w) = w.1
-to_commands line next (inr w) = w.3
+to_commands : (version : JobVersion) (line : List ℕ) (next : Place) → Way (AmongCommands version) line next → next ≡ AmongCommands version
+to_commands version line next (inl w) = w.1
+to_commands version line next (inr w) = w.3
 
 commands_then_late : (n : ℕ) (r : Result (List Command) JobKind) (f : List Command → Result (List Command) (ℕ × JobKind)) → LateKind r → ((next : List Command) → Late (f next)) → Late (commands_then n r f)
 commands_then_late n (Ok next) f late rest = rest next
 commands_then_late n (Err kind) f late rest = late
 
-commands_late : (lines : List (List ℕ)) (says : List Said) (to : Place) (n : ℕ) (commands : List Command) → GoesOn AmongCommands lines says to → Late (commands_from commands n lines)
+commands_late : (version : JobVersion) (lines : List (List ℕ)) (says : List Said) (to : Place) (n : ℕ) (commands : List Command) → GoesOn (AmongCommands version) lines says to → Late (commands_from version commands n lines)
 unfolding commands_from
-commands_late [] says to n commands on = tt
-commands_late (line ∷ lines) [] to n commands on = absurd on
-commands_late (line ∷ lines) (said ∷ says) to n commands on =
-    let w = way AmongCommands line said on.0 on.1 in
-    commands_then_late n (line_commands commands n line) (λ next. commands_from next (n + 1) lines) (command_late commands n line on.0 w)
-    (λ next. commands_late lines says to (n + 1) next (subst (λ (p : Place). GoesOn p lines says to) (to_commands line on.0 w) on.2))
+commands_late version [] says to n commands on = tt
+commands_late version (line ∷ lines) [] to n commands on = absurd on
+commands_late version (line ∷ lines) (said ∷ says) to n commands on =
+    let w = way (AmongCommands version) line said on.0 on.1 in
+    commands_then_late n (line_commands version commands n line) (λ next. commands_from version next (n + 1) lines) (command_late version commands n line on.0 w)
+    (λ next. commands_late version lines says to (n + 1) next (subst (λ (p : Place). GoesOn p lines says to) (to_commands version line on.0 w) on.2))
 
 job_late : (draft : Draft) (r : Result (List Command) (ℕ × JobKind)) → Late r → Late (job_with draft r)
 job_late draft (Ok commands) late = tt
@@ -163,24 +165,24 @@ module _ (draft : Draft) (n : ℕ) (line : List ℕ) (lines : List (List ℕ)) w
   blank_late w =
       holds {A = Result Draft (ℕ × JobKind)} Late (is_allowed line) _ _ w.0 (fails {A = Result Draft (ℕ × JobKind)} Late (has_words line) _ _ (blank_has line w.1) tt)
 
-  form_late : (form : Form) → IsAllowed line → IsLine (words_of line) form → begins_with (codes "debug") (words_of line) ≡ false → Late (does draft n lines form) → Late (line_with draft n line lines)
+  form_late : (form : Form) → IsAllowed line → IsLine draft.version (words_of line) form → begins_with (codes "debug") (words_of line) ≡ false → Late (does draft n lines form) → Late (line_with draft n line lines)
   unfolding line_with
   form_late form allowed is begun late =
       holds {A = Result Draft (ℕ × JobKind)} Late (is_allowed line) _ _ allowed (
-      holds {A = Result Draft (ℕ × JobKind)} Late (has_words line) _ _ (some_words line form is) (
+      holds {A = Result Draft (ℕ × JobKind)} Late (has_words line) _ _ (some_words draft.version line form is) (
       no_first {A = Result Draft (ℕ × JobKind)} Late (begins_with (codes "debug") (words_of line)) _ _ begun (
-      subst (λ (r : Result Statement JobKind). Late (words_with draft n lines r)) (sym (form_means form (words_of line) is)) late)))
+      subst (λ (r : Result Statement JobKind). Late (words_with draft n lines r)) (sym (form_means draft.version form (words_of line) is)) late)))
 
-  pub begins_it : (form : Form) → IsLine (words_of line) form → begins_image line ≡ is_image_form form
+  pub begins_it : (form : Form) → IsLine draft.version (words_of line) form → begins_image draft.version line ≡ is_image_form form
   unfolding begins_image
-  begins_it form is = ap is_image (form_means form (words_of line) is) ∙ image_form form
+  begins_it form is = ap is_image (form_means draft.version form (words_of line) is) ∙ image_form form
 
-  pub blank_begins : words_of line ≡ [] → begins_image line ≡ false
+  pub blank_begins : words_of line ≡ [] → begins_image draft.version line ≡ false
   unfolding begins_image statement_of
-  blank_begins none = ap (λ words. is_image (statement_of words)) none
+  blank_begins none = ap (λ words. is_image (statement_of draft.version words)) none
 
-and_late : (r : Result Draft (ℕ × JobKind)) (f : Draft → Result Job (ℕ × JobKind)) → Late r → ((next : Draft) → Late (f next)) → Late (r >>= f)
-and_late (Ok next) f late rest = rest next
+and_late : (r : Result Draft (ℕ × JobKind)) (f : Draft → Result Job (ℕ × JobKind)) → Late r → ((next : Draft) → r ≡ Ok next → Late (f next)) → Late (r >>= f)
+and_late (Ok next) f late rest = rest next refl
 and_late (Err refusal) f late rest = late
 
 pub plain_begins : (form : Form) → IsPlain form → is_image_form form ≡ false
@@ -192,12 +194,18 @@ pub blank_not_debug : (line : List ℕ) → words_of line ≡ [] → is_debug li
 unfolding begins_with
 blank_not_debug line none = not_debug line (ap (begins_with (codes "debug")) none)
 
+-- no line changes the version
+same_version : (draft next : Draft) (n : ℕ) (line : List ℕ) (lines : List (List ℕ)) → line_with draft n line lines ≡ Ok next → draft.version ≡ next.version
+same_version draft next n line lines is =
+    let told = subst (Says draft n line lines (begins_image draft.version line)) is (line_says draft n line lines) in
+    sym told.1.version
+
 -- the directives
 abbrev Going : List (List ℕ) → Type 0
-Going lines = (says : List Said) (to : Place) (draft : Draft) (inside : Bool) (n : ℕ) → IsOver to → GoesOn (place_in inside) lines says to → Late (body_from draft inside n lines)
+Going lines = (says : List Said) (to : Place) (draft : Draft) (inside : Bool) (n : ℕ) → IsOver to → GoesOn (place_in draft.version inside) lines says to → Late (body_from draft inside n lines)
 
 module _ (line : List ℕ) (lines : List (List ℕ)) (rest : Going lines) (says : List Said) (to : Place) (draft : Draft) (n : ℕ) (over : IsOver to) where
-  inside_late : (next : Place) → Way InsideImage line next → GoesOn next lines says to → Late (body_from draft (not (is_end line)) (n + 1) lines)
+  inside_late : (next : Place) → Way (InsideImage draft.version) line next → GoesOn next lines says to → Late (body_from draft (not (is_end line)) (n + 1) lines)
   inside_late next (inl w) on =
       subst (λ b. Late (body_from draft (not b) (n + 1) lines)) (sym (goes_not line w.0))
       (rest says to draft true (n + 1) over (subst (λ (p : Place). GoesOn p lines says to) w.1 on))
@@ -205,13 +213,17 @@ module _ (line : List ℕ) (lines : List (List ℕ)) (rest : Going lines) (says 
       subst (λ b. Late (body_from draft (not b) (n + 1) lines)) (sym (is_ended line w.1))
       (rest says to draft false (n + 1) over (subst (λ (p : Place). GoesOn p lines says to) w.2 on))
 
-  goes_late : (image : Bool) → is_debug line ≡ false → begins_image line ≡ image → Late (line_with draft n line lines) → GoesOn (place_in image) lines says to → Late (cond (is_debug line) (job_with draft (commands_from [] (n + 1) lines)) ((line_with draft n line lines) >>= (λ next. body_from next (begins_image line) (n + 1) lines)))
+  abbrev from_here : Result Job (ℕ × JobKind)
+  from_here = cond (is_debug line) (job_with draft (commands_from draft.version [] (n + 1) lines)) ((line_with draft n line lines) >>= (λ next. body_from next (begins_image draft.version line) (n + 1) lines))
+
+  goes_late : (image : Bool) → is_debug line ≡ false → begins_image draft.version line ≡ image → Late (line_with draft n line lines) → GoesOn (place_in draft.version image) lines says to → Late from_here
   goes_late image other begins late on =
       no_first {A = Result Job (ℕ × JobKind)} Late (is_debug line) _ _ other
-      (and_late (line_with draft n line lines) _ late (λ next.
-      subst (λ b. Late (body_from next b (n + 1) lines)) (sym begins) (rest says to next image (n + 1) over on)))
+      (and_late (line_with draft n line lines) _ late (λ next is.
+      subst (λ b. Late (body_from next b (n + 1) lines)) (sym begins)
+      (rest says to next image (n + 1) over (subst (λ (v : JobVersion). GoesOn (place_in v image) lines says to) (same_version draft next n line lines is) on))))
 
-  directive_late : (next : Place) → Way AmongDirectives line next → GoesOn next lines says to → Late (cond (is_debug line) (job_with draft (commands_from [] (n + 1) lines)) ((line_with draft n line lines) >>= (λ next. body_from next (begins_image line) (n + 1) lines)))
+  directive_late : (next : Place) → Way (AmongDirectives draft.version) line next → GoesOn next lines says to → Late from_here
   directive_late next (inl w) on =
       goes_late false (blank_not_debug line w.0.1) (blank_begins draft n line lines w.0.1) (blank_late draft n line lines w.0) (subst (λ (p : Place). GoesOn p lines says to) w.1 on)
   directive_late next (inr (inl w)) on =
@@ -219,24 +231,24 @@ module _ (line : List ℕ) (lines : List (List ℕ)) (rest : Going lines) (says 
       goes_late false (not_debug line begun) (begins_it draft n line lines w.0 w.3 ∙ plain_begins w.0 w.1) (form_late draft n line lines w.0 w.2 w.3 begun (does_late draft n lines w.0 w.1)) (subst (λ (p : Place). GoesOn p lines says to) w.4 on)
   directive_late next (inr (inr (inl w))) on =
       let begun = not_begun (Image w.0 w.1) (words_of line) w.3.written in
-      let behind : GoesOn InsideImage lines says to = subst (λ (p : Place). GoesOn p lines says to) w.4 on in
-      goes_late true (not_debug line begun) (begins_it draft n line lines (Image w.0 w.1) w.3) (form_late draft n line lines (Image w.0 w.1) w.2 w.3 begun (image_late draft n w.0 w.1 lines (ends_at lines says to over behind))) behind
+      let behind : GoesOn (InsideImage draft.version) lines says to = subst (λ (p : Place). GoesOn p lines says to) w.4 on in
+      goes_late true (not_debug line begun) (begins_it draft n line lines (Image w.0 w.1) w.3) (form_late draft n line lines (Image w.0 w.1) w.2 w.3 begun (image_late draft n w.0 w.1 lines (ends_at draft.version lines says to over behind))) behind
   directive_late next (inr (inr (inr w))) on =
       yes_first {A = Result Job (ℕ × JobKind)} Late (is_debug line) _ _ (is_debugged line w.0 w.1)
-      (job_late draft (commands_from [] (n + 1) lines) (commands_late lines says to (n + 1) [] (subst (λ (p : Place). GoesOn p lines says to) w.2 on)))
+      (job_late draft (commands_from draft.version [] (n + 1) lines) (commands_late draft.version lines says to (n + 1) [] (subst (λ (p : Place). GoesOn p lines says to) w.2 on)))
 
 body_late : (lines : List (List ℕ)) → Going lines
 unfolding body_from
 body_late [] says to draft inside n over on = tt
 body_late (line ∷ lines) [] to draft inside n over on = absurd on
 body_late (line ∷ lines) (said ∷ says) to draft true n over on =
-    inside_late line lines (body_late lines) says to draft n over on.0 (way InsideImage line said on.0 on.1) on.2
+    inside_late line lines (body_late lines) says to draft n over on.0 (way (InsideImage draft.version) line said on.0 on.1) on.2
 body_late (line ∷ lines) (said ∷ says) to draft false n over on =
-    directive_late line lines (body_late lines) says to draft n over on.0 (way AmongDirectives line said on.0 on.1) on.2
+    directive_late line lines (body_late lines) says to draft n over on.0 (way (AmongDirectives draft.version) line said on.0 on.1) on.2
 
 -- the storage
-module _ (line : List ℕ) (lines : List (List ℕ)) (says : List Said) (to : Place) (n : ℕ) (over : IsOver to) where
-  storage_step : (next : Place) → (GoesOn BeforeStorage lines says to → Late (storage_from (n + 1) lines)) → Way BeforeStorage line next → GoesOn next lines says to → Late (storage_from n (line ∷ lines))
+module _ (version : JobVersion) (line : List ℕ) (lines : List (List ℕ)) (says : List Said) (to : Place) (n : ℕ) (over : IsOver to) where
+  storage_step : (next : Place) → (GoesOn (BeforeStorage version) lines says to → Late (storage_from version (n + 1) lines)) → Way (BeforeStorage version) line next → GoesOn next lines says to → Late (storage_from version n (line ∷ lines))
   unfolding storage_from
   storage_step next rest (inl w) on =
       holds {A = Result Job (ℕ × JobKind)} Late (is_allowed line) _ _ w.0.0
@@ -244,20 +256,19 @@ module _ (line : List ℕ) (lines : List (List ℕ)) (says : List Said) (to : Pl
   storage_step next rest (inr w) on =
       holds {A = Result Job (ℕ × JobKind)} Late (is_allowed line) _ _ w.1
       (holds {A = Result Job (ℕ × JobKind)} Late (has_words line) _ _ (some_pages line w.0 w.2)
-      (subst (λ (r : Result ℕ JobKind). Late (behind_storage n lines r)) (sym (storage_means w.0 (words_of line) w.2))
-      (body_late lines says to (draft_of w.0) false (n + 1) over (subst (λ (p : Place). GoesOn p lines says to) w.3 on))))
+      (subst (λ (r : Result ℕ JobKind). Late (behind_storage version n lines r)) (sym (storage_means w.0 (words_of line) w.2))
+      (body_late lines says to (draft_of version w.0) false (n + 1) over (subst (λ (p : Place). GoesOn p lines says to) w.3 on))))
 
-storage_late : (lines : List (List ℕ)) (says : List Said) (to : Place) (n : ℕ) → IsOver to → GoesOn BeforeStorage lines says to → Late (storage_from n lines)
-storage_late [] [] to n over on = absurd (subst IsOver (sym on) over)
-storage_late [] (said ∷ says) to n over on = absurd on
-storage_late (line ∷ lines) [] to n over on = absurd on
-storage_late (line ∷ lines) (said ∷ says) to n over on =
-    storage_step line lines says to n over on.0 (storage_late lines says to (n + 1) over) (way BeforeStorage line said on.0 on.1) on.2
+storage_late : (version : JobVersion) (lines : List (List ℕ)) (says : List Said) (to : Place) (n : ℕ) → IsOver to → GoesOn (BeforeStorage version) lines says to → Late (storage_from version n lines)
+storage_late version [] [] to n over on = absurd (subst IsOver (sym on) over)
+storage_late version [] (said ∷ says) to n over on = absurd on
+storage_late version (line ∷ lines) [] to n over on = absurd on
+storage_late version (line ∷ lines) (said ∷ says) to n over on =
+    storage_step version line lines says to n over on.0 (storage_late version lines says to (n + 1) over) (way (BeforeStorage version) line said on.0 on.1) on.2
 
 -- the header
-pub headed : (line : List ℕ) → words_of line ≡ codes "job" ∷ codes "1" ∷ [] → (has_words line ≡ true) × (is_header (words_of line) ≡ true)
-unfolding is_header
-headed line is = (ap (λ (ws : List (List ℕ)). nat_lt 0 (length ws)) is, ap is_header is)
+pub headed : (line : List ℕ) (version : JobVersion) → words_of line ≡ codes "job" ∷ version_word version ∷ [] → has_words line ≡ true
+headed line version is = ap (λ (ws : List (List ℕ)). nat_lt 0 (length ws)) is
 
 module _ (line : List ℕ) (lines : List (List ℕ)) (says : List Said) (to : Place) (n : ℕ) (over : IsOver to) where
   header_step : (next : Place) → (GoesOn BeforeHeader lines says to → Late (header_from (n + 1) lines)) → Way BeforeHeader line next → GoesOn next lines says to → Late (header_from n (line ∷ lines))
@@ -266,10 +277,10 @@ module _ (line : List ℕ) (lines : List (List ℕ)) (says : List Said) (to : Pl
       holds {A = Result Job (ℕ × JobKind)} Late (is_allowed line) _ _ w.0.0
       (fails {A = Result Job (ℕ × JobKind)} Late (has_words line) _ _ (blank_has line w.0.1) (rest (subst (λ (p : Place). GoesOn p lines says to) w.1 on)))
   header_step next rest (inr w) on =
-      holds {A = Result Job (ℕ × JobKind)} Late (is_allowed line) _ _ w.0
-      (holds {A = Result Job (ℕ × JobKind)} Late (has_words line) _ _ (headed line w.1).0
-      (yes_first {A = Result Job (ℕ × JobKind)} Late (is_header (words_of line)) _ _ (headed line w.1).1
-      (storage_late lines says to (n + 1) over (subst (λ (p : Place). GoesOn p lines says to) w.2 on))))
+      holds {A = Result Job (ℕ × JobKind)} Late (is_allowed line) _ _ w.1
+      (holds {A = Result Job (ℕ × JobKind)} Late (has_words line) _ _ (headed line w.0 w.2)
+      (subst (λ (o : Option JobVersion). Late (behind_header n lines o)) (sym (header_is (words_of line) w.0 w.2))
+      (storage_late w.0 lines says to (n + 1) over (subst (λ (p : Place). GoesOn p lines says to) w.3 on))))
 
 header_late : (lines : List (List ℕ)) (says : List Said) (to : Place) (n : ℕ) → IsOver to → GoesOn BeforeHeader lines says to → Late (header_from n lines)
 header_late [] [] to n over on = absurd (subst IsOver (sym on) over)

@@ -1,6 +1,7 @@
 pub mod Back
 pub mod Calls
 pub mod Deeds
+pub mod First
 pub mod Formed
 pub mod Inside
 pub mod Late

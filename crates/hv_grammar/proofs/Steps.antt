@@ -1,12 +1,15 @@
 -- The way of lines through the places, one line after another, up to the end or to the line that is refused.
-use Rattle.std.proofs.Common.{◌≡◌, ◌≢◌, ℕ, suc, ◌+◌, ◌≤◌, Bool, true, false, not, cond, codes, List, [], ◌∷◌, length, take, Result, Ok, Err, refl, ap, ◌∙◌, arith}
+use Rattle.std.proofs.Common.{◌≡◌, ◌≢◌, ℕ, suc, ◌+◌, ◌≤◌, ◌&&◌, Bool, true, false, not, cond, codes, List, [], ◌∷◌, length, take, Option, Some, None, Result, Ok, Err, refl, ap, ◌∙◌, arith}
+use Rattle.std.specs.Str.{bytes_eq}
 use Rattle.std.proofs.lemmas.Bool.{ltb-false}
 use Rattle.std.proofs.lemmas.List.{nil_from_length}
 use Rattle.hv_job.specs.JobOf.{is_debug, is_end}
-use Rattle.hv_line.specs.Lines.{has_words, is_header, is_only, words_of}
+use Rattle.hv_line.specs.Lines.{has_words, is_only, version_of, words_of}
 use Rattle.hv_line.specs.declared.kinds.JobKind.{JobKind}
+use Rattle.hv_line.specs.declared.version.JobVersion.{JobVersion}
+use Rattle.hv_line.specs.declared.version.JobVersion.TheVariants.{One, Two}
 use Rattle.hv_grammar.specs.Said.{Said}
-use Rattle.hv_grammar.specs.Texts.{Goes, GoesOn, IsAllowed, IsOver, Place}
+use Rattle.hv_grammar.specs.Texts.{Goes, GoesOn, IsAllowed, IsOver, Place, version_word}
 use Rattle.hv_grammar.proofs.Tests.{both, same_text, text_same}
 
 -- the lines in front of line n go somewhere; the first of them has this number
@@ -100,11 +103,27 @@ pub debug_says : (line : List ℕ) → is_debug line ≡ true → (words_of line
 unfolding is_debug
 debug_says line is = let b = both _ _ is in (only_says (codes "debug") (words_of line) b.0, b.1)
 
-pub header_says : (words : List (List ℕ)) → is_header words ≡ true → words ≡ codes "job" ∷ codes "1" ∷ []
-unfolding is_header
-header_says [] is = cc
-header_says (job ∷ []) is = cc
-header_says (job ∷ version ∷ []) is =
-    let b = both _ _ is in
-    ap (λ w. w ∷ version ∷ []) (same_text job (codes "job") b.0) ∙ ap (λ w. codes "job" ∷ w ∷ []) (same_text version (codes "1") b.1)
-header_says (job ∷ version ∷ word ∷ words) is = cc
+-- the words of a header
+two_says : (job number : List ℕ) (version : JobVersion) (b c : Bool) → (b ≡ true → (job ≡ codes "job") × (number ≡ codes "1")) → (c ≡ true → (job ≡ codes "job") × (number ≡ codes "2")) → (let o : Option JobVersion = cond b (Some One) (cond c (Some Two) None) in o) ≡ Some version → (job ≡ codes "job") × (number ≡ version_word version)
+two_says job number version true c one two is =
+    let e : One ≡ version = cc in let w = one refl in (w.0, w.1 ∙ ap version_word e)
+two_says job number version false true one two is =
+    let e : Two ≡ version = cc in let w = two refl in (w.0, w.1 ∙ ap version_word e)
+two_says job number version false false one two is = cc
+
+same_texts : (job number text : List ℕ) → (bytes_eq job (codes "job") && bytes_eq number text) ≡ true → (job ≡ codes "job") × (number ≡ text)
+same_texts job number text is = let b = both _ _ is in (same_text job (codes "job") b.0, same_text number text b.1)
+
+pub header_says : (words : List (List ℕ)) (version : JobVersion) → version_of words ≡ Some version → words ≡ codes "job" ∷ version_word version ∷ []
+unfolding version_of
+header_says [] version is = cc
+header_says (job ∷ []) version is = cc
+header_says (job ∷ number ∷ []) version is =
+    let w = two_says job number version (bytes_eq job (codes "job") && bytes_eq number (codes "1")) (bytes_eq job (codes "job") && bytes_eq number (codes "2")) (same_texts job number (codes "1")) (same_texts job number (codes "2")) is in
+    ap (λ w. w ∷ number ∷ []) w.0 ∙ ap (λ w. codes "job" ∷ w ∷ []) w.1
+header_says (job ∷ number ∷ word ∷ words) version is = cc
+
+pub header_is : (words : List (List ℕ)) (version : JobVersion) → words ≡ codes "job" ∷ version_word version ∷ [] → version_of words ≡ Some version
+unfolding version_of
+header_is words One is = ap version_of is
+header_is words Two is = ap version_of is

@@ -7,11 +7,13 @@ use Rattle.hv_lex.specs.Numbers.{number_of}
 use Rattle.hv_samples.specs.declared.choice.Sample.{Sample}
 use Rattle.hv_samples.specs.declared.choice.Sample.TheVariants.{Pass, Slicer, Forward, Pager}
 use Rattle.hv_limits.specs.Limits.{lines_mask}
-use Rattle.hv_line.specs.JobLimits.{job_harts}
-use Rattle.hv_line.specs.Statements.{access, address, any_sample, between, fixed, hart, inner, later_page, mask, named, number, numbers, or_no_name, or_no_number, page}
+use Rattle.hv_line.specs.JobLimits.{harts_in}
+use Rattle.hv_line.specs.Statements.{access, address, any_sample, between, fixed, hart, inner, later_page, mask, named, number, numbers, or_no_name, or_no_number, page, wide_access}
 use Rattle.hv_line.specs.Names.{is_name, name_of}
 use Rattle.hv_line.specs.declared.kinds.JobKind.{JobKind}
 use Rattle.hv_line.specs.declared.kinds.JobKind.TheVariants as fault
+use Rattle.hv_line.specs.declared.version.JobVersion.{JobVersion}
+use Rattle.hv_line.specs.declared.version.JobVersion.TheVariants.{One, Two}
 use Rattle.hv_line.proofs.Ranging.{then_ok}
 use Rattle.hv_grammar.specs.Forms.{AreWords, Spelt, Word, sample_word}
 use Rattle.hv_lex.specs.Refusing.{◌>>=◌}
@@ -66,11 +68,15 @@ unfolding between
 between_is low high word n is l h =
     then_is (number word) _ n (Ok n) (number_is word n is) (taken _ n fault.Range (both_is _ _ (le-leb low n l) (le-leb n high h)))
 
-pub hart_says : (word : List ℕ) (n : ℕ) → hart word ≡ Ok n → (number_of word ≡ Some n) × (n < job_harts)
-hart_says word n is = let b = between_says 0 (job_harts - 1) word n is in let h : n ≤ job_harts - 1 = b.2 in (b.0, omega (arith, h))
+below_harts : (version : JobVersion) (n : ℕ) → n ≤ harts_in version - 1 → n < harts_in version
+below_harts One n h = omega (arith, h)
+below_harts Two n h = omega (arith, h)
 
-pub hart_is : (word : List ℕ) (n : ℕ) → number_of word ≡ Some n → n < job_harts → hart word ≡ Ok n
-hart_is word n is h = let le : n ≤ job_harts - 1 = omega (arith, h) in between_is 0 (job_harts - 1) word n is (omega arith) le
+pub hart_says : (version : JobVersion) (word : List ℕ) (n : ℕ) → hart version word ≡ Ok n → (number_of word ≡ Some n) × (n < harts_in version)
+hart_says version word n is = let b = between_says 0 (harts_in version - 1) word n is in (b.0, below_harts version n b.2)
+
+pub hart_is : (version : JobVersion) (word : List ℕ) (n : ℕ) → number_of word ≡ Some n → n < harts_in version → hart version word ≡ Ok n
+hart_is version word n is h = let le : n ≤ harts_in version - 1 = omega (arith, h) in between_is 0 (harts_in version - 1) word n is (omega arith) le
 
 pub page_says : (word : List ℕ) (n : ℕ) → page word ≡ Ok n → (number_of word ≡ Some n) × (n < 2 ^ 20)
 page_says word n is = let b = between_says 0 (2 ^ 20 - 1) word n is in let h : n ≤ 2 ^ 20 - 1 = b.2 in (b.0, omega (arith, h))
@@ -146,19 +152,37 @@ first_or {A = A} G word text x y v f g is = go (bytes_eq word text) refl is
     go false same is = g is
 
 -- the bits of an entry
-pub access_says : (word : List ℕ) (bits : ℕ) → access word ≡ Ok bits → ((word ≡ codes "ro") × (bits ≡ 1)) ⊎ ((word ≡ codes "rw") × (bits ≡ 3))
+abbrev pub IsWide : List ℕ → ℕ → Type 0
+IsWide word bits = ((word ≡ codes "rx") × (bits ≡ 5)) ⊎ ((word ≡ codes "rwx") × (bits ≡ 7))
+
+wide_says : (version : JobVersion) (word : List ℕ) (bits : ℕ) → wide_access version word ≡ Ok bits → (version ≡ Two) × IsWide word bits
+unfolding wide_access
+wide_says One word bits is = cc
+wide_says Two word bits is =
+    first_or _ word (codes "rx") (Ok 5) _ bits (λ w e. let b : bits ≡ 5 = cc in (refl, inl (w, b))) (
+    first_or _ word (codes "rwx") (Ok 7) (Err fault.Words) bits (λ w e. let b : bits ≡ 7 = cc in (refl, inr (w, b))) (λ e. cc)) is
+
+pub access_says : (version : JobVersion) (word : List ℕ) (bits : ℕ) → access version word ≡ Ok bits → ((word ≡ codes "ro") × (bits ≡ 1)) ⊎ (((word ≡ codes "rw") × (bits ≡ 3)) ⊎ ((version ≡ Two) × IsWide word bits))
 unfolding access
-access_says word bits is =
+access_says version word bits is =
     first_or _ word (codes "ro") (Ok 1) _ bits (λ w e. let b : bits ≡ 1 = cc in inl (w, b)) (
-    first_or _ word (codes "rw") (Ok 3) (Err fault.Words) bits (λ w e. let b : bits ≡ 3 = cc in inr (w, b)) (λ e. cc)) is
+    first_or _ word (codes "rw") (Ok 3) (wide_access version word) bits (λ w e. let b : bits ≡ 3 = cc in inr (inl (w, b))) (λ e. inr (inr (wide_says version word bits e)))) is
 
-pub access_read : (word : List ℕ) → word ≡ codes "ro" → access word ≡ Ok 1
+pub access_read : (version : JobVersion) (word : List ℕ) → word ≡ codes "ro" → access version word ≡ Ok 1
 unfolding access
-access_read word is = ap access is
+access_read version word is = ap (access version) is
 
-pub access_write : (word : List ℕ) → word ≡ codes "rw" → access word ≡ Ok 3
+pub access_write : (version : JobVersion) (word : List ℕ) → word ≡ codes "rw" → access version word ≡ Ok 3
 unfolding access
-access_write word is = ap access is
+access_write version word is = ap (access version) is
+
+pub access_fetch : (word : List ℕ) → word ≡ codes "rx" → access Two word ≡ Ok 5
+unfolding access wide_access
+access_fetch word is = ap (access Two) is
+
+pub access_all : (word : List ℕ) → word ≡ codes "rwx" → access Two word ≡ Ok 7
+unfolding access wide_access
+access_all word is = ap (access Two) is
 
 -- samples
 pub inner_says : (word : List ℕ) (which : Sample) → inner word ≡ Ok which → (word ≡ sample_word which) × ((which ≡ Pass) ⊎ (which ≡ Forward))

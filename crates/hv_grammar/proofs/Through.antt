@@ -4,11 +4,12 @@ use Rattle.hv_lex.specs.Lines.{lines_of}
 use Rattle.hv_line.specs.Statements.{storage_line_of}
 use Rattle.hv_line.specs.Commands.{command_of, join_words_of}
 use Rattle.hv_job.specs.Commands.{line_commands, commands_from, commands_then, commands_with, new_commands, is_over}
-use Rattle.hv_job.specs.JobOf.{before_end, begins_image, body_from, draft_of, header_from, is_debug, is_end, job_in, job_of, job_with, line_with, storage_from, behind_storage}
-use Rattle.hv_line.specs.Lines.{has_words, is_allowed, is_header, words_of}
+use Rattle.hv_job.specs.JobOf.{before_end, begins_image, body_from, draft_of, header_from, is_debug, is_end, job_in, job_of, job_with, line_with, storage_from, behind_header, behind_storage}
+use Rattle.hv_line.specs.Lines.{has_words, is_allowed, version_of, words_of}
 use Rattle.hv_line.specs.declared.kinds.JobKind.{JobKind}
 use Rattle.hv_line.specs.declared.kinds.JobKind.TheVariants as fault
 use Rattle.hv_line.specs.declared.types.DebugCommand.{DebugCommand}
+use Rattle.hv_line.specs.declared.version.JobVersion.{JobVersion}
 use Rattle.hv_job.specs.declared.job.DebugLine.{DebugLine as Command}
 use Rattle.hv_job.specs.declared.job.Job.{Job}
 use Rattle.hv_line.proofs.Ranging.{then_ok}
@@ -33,9 +34,9 @@ pub record AreCommands (commands : List Command) (n : ℕ) (all : List Command) 
   pub counted : harts_lines says ≡ 0
   pub assembled : AreAssembled says
 
-pub record IsCommanded (commands next : List Command) (n : ℕ) (line : List ℕ) : Type 0 where
+pub record IsCommanded (version : JobVersion) (commands next : List Command) (n : ℕ) (line : List ℕ) : Type 0 where
   pub said : Said
-  pub goes : Goes AmongCommands line said AmongCommands
+  pub goes : Goes (AmongCommands version) line said (AmongCommands version)
   pub is : next ≡ commands ++ commands_by n said
   pub more : (all : List Command) (says : List Said) → AreCommands next (n + 1) all says → AreCommands commands n all (said ∷ says)
 
@@ -43,8 +44,8 @@ pub longer : (commands next by : List Command) (n : ℕ) (all : List Command) (s
 longer commands next by n all says next_is is =
     is ∙ ap (λ cs. cs ++ commands_said (n + 1) says) next_is ∙ append_assoc commands by (commands_said (n + 1) says)
 
-module _ (commands next : List Command) (n : ℕ) (line : List ℕ) where
-  unfoldable pub skipped : IsAllowed line → words_of line ≡ [] → commands ≡ next → IsCommanded commands next n line
+module _ (version : JobVersion) (commands next : List Command) (n : ℕ) (line : List ℕ) where
+  unfoldable pub skipped : IsAllowed line → words_of line ≡ [] → commands ≡ next → IsCommanded version commands next n line
   skipped allowed none same =
       let is : next ≡ commands ++ [] = sym same ∙ sym (append-nil commands) in
       record {
@@ -61,10 +62,10 @@ module _ (commands next : List Command) (n : ℕ) (line : List ℕ) where
         };
       }
 
-  unfoldable pub commanded : (what : DebugCommand) → IsAllowed line → command_of (words_of line) ≡ Ok what → next ≡ commands_with commands n (join_words_of (words_of line)) what → IsCommanded commands next n line
+  unfoldable pub commanded : (what : DebugCommand) → IsAllowed line → command_of version (words_of line) ≡ Ok what → next ≡ commands_with commands n (join_words_of (words_of line)) what → IsCommanded version commands next n line
   commanded what allowed is made = record {
     said = Called (words_of line) what;
-    goes = CommandLine what allowed (words_call (words_of line) what is);
+    goes = CommandLine what allowed (words_call version (words_of line) what is);
     is = made;
     more = λ all says are. record {
       is = longer commands next (commands_by n (Called (words_of line) what)) n all says made are.is;
@@ -80,29 +81,29 @@ module _ (commands next : List Command) (n : ℕ) (line : List ℕ) where
   entered_is what words true is = cc
   entered_is what words false is = cc
 
-  command_is : line_commands commands n line ≡ Ok next → IsCommanded commands next n line
+  command_is : line_commands version commands n line ≡ Ok next → IsCommanded version commands next n line
   unfolding line_commands
   command_is =
-      let R = λ (r : Result (List Command) JobKind). r ≡ Ok next → IsCommanded commands next n line in
+      let R = λ (r : Result (List Command) JobKind). r ≡ Ok next → IsCommanded version commands next n line in
       unless R (is_allowed line) (Err fault.Byte) _ (λ no is. cc) (λ allowed.
       unless R (has_words line) (Ok commands) _ (λ none is. let same : commands ≡ next = cc in skipped allowed (no_words line none) same) (λ some is.
-      let s = then_ok (command_of (words_of line)) (new_commands commands n (words_of line)) next is in
+      let s = then_ok (command_of version (words_of line)) (new_commands commands n (words_of line)) next is in
       commanded s.0 allowed s.1 (entered_is s.0 (words_of line) (is_over commands s.0) s.2)))
 
-commands_good : (lines : List (List ℕ)) (n : ℕ) (commands : List Command) → Good AmongCommands n lines (AreCommands commands n) (commands_from commands n lines)
+commands_good : (version : JobVersion) (lines : List (List ℕ)) (n : ℕ) (commands : List Command) → Good (AmongCommands version) n lines (AreCommands commands n) (commands_from version commands n lines)
 unfolding commands_from
-commands_good [] n commands = record {
+commands_good version [] n commands = record {
   says = [];
-  place = AmongCommands;
+  place = AmongCommands version;
   goes_on = refl;
   over = tt;
   holds = record { is = sym (append-nil commands); placed = refl; events = refl; harts = refl; counted = refl; assembled = tt };
 }
-commands_good (line ∷ lines) n commands =
-    by_result (λ (r : Result (List Command) JobKind). Good AmongCommands n (line ∷ lines) (AreCommands commands n) (commands_then n r (λ next. commands_from next (n + 1) lines))) (line_commands commands n line)
-    (λ next is. let c = command_is commands next n line is in
-    step AmongCommands AmongCommands n line lines c.said (AreCommands commands n) (AreCommands next (n + 1)) c.goes c.more (commands_from next (n + 1) lines) (commands_good lines (n + 1) next))
-    (λ kind is. stops AmongCommands n (line ∷ lines))
+commands_good version (line ∷ lines) n commands =
+    by_result (λ (r : Result (List Command) JobKind). Good (AmongCommands version) n (line ∷ lines) (AreCommands commands n) (commands_then n r (λ next. commands_from version next (n + 1) lines))) (line_commands version commands n line)
+    (λ next is. let c = command_is version commands next n line is in
+    step (AmongCommands version) (AmongCommands version) n line lines c.said (AreCommands commands n) (AreCommands next (n + 1)) c.goes c.more (commands_from version next (n + 1) lines) (commands_good version lines (n + 1) next))
+    (λ kind is. stops (AmongCommands version) n (line ∷ lines))
 
 -- the job of a draft and what is said behind it
 abbrev pub job_behind : Draft → ℕ → List Said → Job
@@ -158,10 +159,10 @@ nothing_behind draft n = record {
   inner = λ image. cc;
 }
 
-ended : (draft : Draft) (n : ℕ) → Whole AmongDirectives [] (IsBehind draft false [] n (job_in draft []))
+ended : (draft : Draft) (n : ℕ) → Whole (AmongDirectives draft.version) [] (IsBehind draft false [] n (job_in draft []))
 ended draft n = record {
   says = [];
-  place = AmongDirectives;
+  place = AmongDirectives draft.version;
   goes_on = refl;
   over = tt;
   holds = nothing_behind draft n;
@@ -169,12 +170,12 @@ ended draft n = record {
 
 -- the directives, where an image's lines may come first
 abbrev pub Going : List (List ℕ) → Type 0
-Going lines = (draft : Draft) (inside : Bool) (n : ℕ) → (inside ≡ true → Ends lines) → Good (place_in inside) n lines (IsBehind draft inside lines n) (body_from draft inside n lines)
+Going lines = (draft : Draft) (inside : Bool) (n : ℕ) → (inside ≡ true → Ends lines) → Good (place_in draft.version inside) n lines (IsBehind draft inside lines n) (body_from draft inside n lines)
 
 module _ (line : List ℕ) (lines : List (List ℕ)) (rest : Going lines) (draft : Draft) (n : ℕ) where
-  inside_step : Ends (line ∷ lines) → (b : Bool) → is_end line ≡ b → Good InsideImage n (line ∷ lines) (IsBehind draft true (line ∷ lines) n) (body_from draft (not b) (n + 1) lines)
+  inside_step : Ends (line ∷ lines) → (b : Bool) → is_end line ≡ b → Good (InsideImage draft.version) n (line ∷ lines) (IsBehind draft true (line ∷ lines) n) (body_from draft (not b) (n + 1) lines)
   inside_step ends true is =
-      step InsideImage AmongDirectives n line lines Nothing (IsBehind draft true (line ∷ lines) n) (IsBehind draft false lines (n + 1)) (EndLine (ends_here line lines is ends) (end_says line is))
+      step (InsideImage draft.version) (AmongDirectives draft.version) n line lines Nothing (IsBehind draft true (line ∷ lines) n) (IsBehind draft false lines (n + 1)) (EndLine (ends_here line lines is ends) (end_says line is))
       (λ job says behind. record {
         is = behind.is;
         counted = (let c : harts_count draft.harts + harts_lines says ≤ 1 = behind.counted in omega (arith, c));
@@ -183,7 +184,7 @@ module _ (line : List ℕ) (lines : List (List ℕ)) (rest : Going lines) (draft
       })
       (body_from draft false (n + 1) lines) (rest draft false (n + 1) (λ image. cc))
   inside_step ends false is =
-      step InsideImage InsideImage n line lines (Inner line) (IsBehind draft true (line ∷ lines) n) (IsBehind draft true lines (n + 1)) (InnerLine (goes_says line is))
+      step (InsideImage draft.version) (InsideImage draft.version) n line lines (Inner line) (IsBehind draft true (line ∷ lines) n) (IsBehind draft true lines (n + 1)) (InnerLine (goes_says line is))
       (λ job says behind. record {
         is = behind.is;
         counted = (let c : harts_count draft.harts + harts_lines says ≤ 1 = behind.counted in omega (arith, c));
@@ -208,26 +209,28 @@ module _ (line : List ℕ) (lines : List (List ℕ)) (rest : Going lines) (draft
         inner = λ inside. cc;
       }
 
-  said : (r : Result Draft (ℕ × JobKind)) → Says draft n line lines (begins_image line) r → Good AmongDirectives n (line ∷ lines) (IsBehind draft false (line ∷ lines) n) (r >>= (λ next. body_from next (begins_image line) (n + 1) lines))
+  said : (r : Result Draft (ℕ × JobKind)) → Says draft n line lines (begins_image draft.version line) r → Good (AmongDirectives draft.version) n (line ∷ lines) (IsBehind draft false (line ∷ lines) n) (r >>= (λ next. body_from next (begins_image draft.version line) (n + 1) lines))
   said (Ok next) (it, t) =
-      step AmongDirectives (place_in (begins_image line)) n line lines it (IsBehind draft false (line ∷ lines) n) (IsBehind next (begins_image line) lines (n + 1)) t.goes (told_step (begins_image line) next it t) (body_from next (begins_image line) (n + 1) lines) (rest next (begins_image line) (n + 1) t.ends)
+      let image = begins_image draft.version line in
+      step (AmongDirectives draft.version) (place_in draft.version (begins_image draft.version line)) n line lines it (IsBehind draft false (line ∷ lines) n) (IsBehind next (begins_image draft.version line) lines (n + 1)) t.goes (told_step (begins_image draft.version line) next it t) (body_from next (begins_image draft.version line) (n + 1) lines)
+      (subst (λ (v : JobVersion). Good (place_in v image) (n + 1) lines (IsBehind next image lines (n + 1)) (body_from next image (n + 1) lines)) t.version (rest next image (n + 1) t.ends))
   said (Err refusal) stop = stop
 
-  debug_step : IsAllowed line → words_of line ≡ codes "debug" ∷ [] → (r : Result (List Command) (ℕ × JobKind)) → Good AmongCommands (n + 1) lines (AreCommands [] (n + 1)) r → Good AmongDirectives n (line ∷ lines) (IsBehind draft false (line ∷ lines) n) (job_with draft r)
+  debug_step : IsAllowed line → words_of line ≡ codes "debug" ∷ [] → (r : Result (List Command) (ℕ × JobKind)) → Good (AmongCommands draft.version) (n + 1) lines (AreCommands [] (n + 1)) r → Good (AmongDirectives draft.version) n (line ∷ lines) (IsBehind draft false (line ∷ lines) n) (job_with draft r)
   debug_step allowed is (Ok commands) whole = record {
     says = Nothing ∷ whole.says;
     place = whole.place;
-    goes_on = (AmongCommands, DebugLine allowed is, whole.goes_on);
+    goes_on = (AmongCommands draft.version, DebugLine allowed is, whole.goes_on);
     over = whole.over;
     holds = debugged draft n line lines commands whole.says whole.holds;
   }
   debug_step allowed is (Err refusal) stop =
-      step {A = Job} AmongDirectives AmongCommands n line lines Nothing (λ job says. Unit {0}) (λ job says. Unit {0}) (DebugLine allowed is) (λ job says u. tt) (Err refusal) stop
+      step {A = Job} (AmongDirectives draft.version) (AmongCommands draft.version) n line lines Nothing (λ job says. Unit {0}) (λ job says. Unit {0}) (DebugLine allowed is) (λ job says u. tt) (Err refusal) stop
 
-  directive_step : Good AmongDirectives n (line ∷ lines) (IsBehind draft false (line ∷ lines) n) (cond (is_debug line) (job_with draft (commands_from [] (n + 1) lines)) ((line_with draft n line lines) >>= (λ next. body_from next (begins_image line) (n + 1) lines)))
+  directive_step : Good (AmongDirectives draft.version) n (line ∷ lines) (IsBehind draft false (line ∷ lines) n) (cond (is_debug line) (job_with draft (commands_from draft.version [] (n + 1) lines)) ((line_with draft n line lines) >>= (λ next. body_from next (begins_image draft.version line) (n + 1) lines)))
   directive_step =
-      by_test (λ (r : Result Job (ℕ × JobKind)). Good AmongDirectives n (line ∷ lines) (IsBehind draft false (line ∷ lines) n) r) (is_debug line) _ _
-      (λ debug. let d = debug_says line debug in debug_step d.1 d.0 (commands_from [] (n + 1) lines) (commands_good lines (n + 1) []))
+      by_test (λ (r : Result Job (ℕ × JobKind)). Good (AmongDirectives draft.version) n (line ∷ lines) (IsBehind draft false (line ∷ lines) n) r) (is_debug line) _ _
+      (λ debug. let d = debug_says line debug in debug_step d.1 d.0 (commands_from draft.version [] (n + 1) lines) (commands_good draft.version lines (n + 1) []))
       (λ other. said (line_with draft n line lines) (line_says draft n line lines))
 
 pub body_good : (lines : List (List ℕ)) → Going lines
@@ -247,20 +250,25 @@ pub record IsSaid (n : ℕ) (job : Job) (says : List Said) : Type 0 where
 more_said : (n : ℕ) (job : Job) (says : List Said) → IsSaid (n + 1) job says → IsSaid n job (Nothing ∷ says)
 more_said n job says is = record { is = is.is; counted = (let c : harts_lines says ≤ 1 = is.counted in omega (arith, c)); assembled = (tt, is.assembled) }
 
-storage_good : (lines : List (List ℕ)) (n : ℕ) → Good BeforeStorage n lines (IsSaid n) (storage_from n lines)
+storage_good : (version : JobVersion) (lines : List (List ℕ)) (n : ℕ) → Good (BeforeStorage version) n lines (IsSaid n) (storage_from version n lines)
 unfolding storage_from
-storage_good [] n = stops BeforeStorage n []
-storage_good (line ∷ lines) n =
-    let G = λ (r : Result Job (ℕ × JobKind)). Good BeforeStorage n (line ∷ lines) (IsSaid n) r in
-    unless G (is_allowed line) _ _ (λ no. stops BeforeStorage n (line ∷ lines)) (λ allowed.
-    unless G (has_words line) _ _ (λ none. step BeforeStorage BeforeStorage n line lines Nothing (IsSaid n) (IsSaid (n + 1)) (NoWords tt allowed (no_words line none)) (more_said n) (storage_from (n + 1) lines) (storage_good lines (n + 1))) (λ some.
-    by_result (λ (r : Result ℕ JobKind). Good BeforeStorage n (line ∷ lines) (IsSaid n) (behind_storage n lines r)) (storage_line_of (words_of line))
-    (λ pages is. step BeforeStorage AmongDirectives n line lines (StorageOf pages) (IsSaid n) (IsBehind (draft_of pages) false lines (n + 1)) (StorageLine pages allowed (storage_formed (words_of line) pages is))
+storage_good version [] n = stops (BeforeStorage version) n []
+storage_good version (line ∷ lines) n =
+    let G = λ (r : Result Job (ℕ × JobKind)). Good (BeforeStorage version) n (line ∷ lines) (IsSaid n) r in
+    unless G (is_allowed line) _ _ (λ no. stops (BeforeStorage version) n (line ∷ lines)) (λ allowed.
+    unless G (has_words line) _ _ (λ none. step (BeforeStorage version) (BeforeStorage version) n line lines Nothing (IsSaid n) (IsSaid (n + 1)) (NoWords tt allowed (no_words line none)) (more_said n) (storage_from version (n + 1) lines) (storage_good version lines (n + 1))) (λ some.
+    by_result (λ (r : Result ℕ JobKind). Good (BeforeStorage version) n (line ∷ lines) (IsSaid n) (behind_storage version n lines r)) (storage_line_of (words_of line))
+    (λ pages is. step (BeforeStorage version) (AmongDirectives version) n line lines (StorageOf pages) (IsSaid n) (IsBehind (draft_of version pages) false lines (n + 1)) (StorageLine pages allowed (storage_formed (words_of line) pages is))
     (λ job says behind. record { is = behind.is; counted = (let c = behind.counted in omega (arith, c)); assembled = (tt, behind.assembled) })
-    (body_from (draft_of pages) false (n + 1) lines) (body_good lines (draft_of pages) false (n + 1) (λ image. cc)))
-    (λ kind is. stops BeforeStorage n (line ∷ lines))))
+    (body_from (draft_of version pages) false (n + 1) lines) (body_good lines (draft_of version pages) false (n + 1) (λ image. cc)))
+    (λ kind is. stops (BeforeStorage version) n (line ∷ lines))))
 
 -- the header
+headed_good : (line : List ℕ) (lines : List (List ℕ)) (n : ℕ) → IsAllowed line → (o : Option JobVersion) → version_of (words_of line) ≡ o → Good BeforeHeader n (line ∷ lines) (IsSaid n) (behind_header n lines o)
+headed_good line lines n allowed (Some version) is =
+    step BeforeHeader (BeforeStorage version) n line lines Nothing (IsSaid n) (IsSaid (n + 1)) (Header version allowed (header_says (words_of line) version is)) (more_said n) (storage_from version (n + 1) lines) (storage_good version lines (n + 1))
+headed_good line lines n allowed None is = stops BeforeHeader n (line ∷ lines)
+
 header_good : (lines : List (List ℕ)) (n : ℕ) → Good BeforeHeader n lines (IsSaid n) (header_from n lines)
 unfolding header_from
 header_good [] n = stops BeforeHeader n []
@@ -268,9 +276,7 @@ header_good (line ∷ lines) n =
     let G = λ (r : Result Job (ℕ × JobKind)). Good BeforeHeader n (line ∷ lines) (IsSaid n) r in
     unless G (is_allowed line) _ _ (λ no. stops BeforeHeader n (line ∷ lines)) (λ allowed.
     unless G (has_words line) _ _ (λ none. step BeforeHeader BeforeHeader n line lines Nothing (IsSaid n) (IsSaid (n + 1)) (NoWords tt allowed (no_words line none)) (more_said n) (header_from (n + 1) lines) (header_good lines (n + 1))) (λ some.
-    by_test G (is_header (words_of line)) _ _
-    (λ header. step BeforeHeader BeforeStorage n line lines Nothing (IsSaid n) (IsSaid (n + 1)) (Header allowed (header_says (words_of line) header)) (more_said n) (storage_from (n + 1) lines) (storage_good lines (n + 1)))
-    (λ other. stops BeforeHeader n (line ∷ lines))))
+    headed_good line lines n allowed (version_of (words_of line)) refl))
 
 text_good : (text : List ℕ) → Good BeforeHeader 1 (lines_of text) (IsSaid 1) (job_of text)
 unfolding job_of

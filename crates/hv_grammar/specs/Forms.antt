@@ -1,4 +1,5 @@
 -- What a line of a job may be, as it is written: one form for each line of the table, with its words and its ranges.
+-- Which forms and ranges there are says the first line with words, `job 1` or `job 2`.
 use Rattle.std.specs.Prelude.{◌≡◌, ◌⊎◌, ◌↔◌, ℕ, ◌+◌, ◌*◌, ◌%◌, ◌^◌, ◌<◌, ◌≤◌, true, bit_and, List, [], ◌∷◌, map, length, codes, Some, Ok}
 use Rattle.hv_irq.specs.declared.Event.TheVariants as event
 use Rattle.hv_lex.specs.Numbers.{number_of}
@@ -6,7 +7,7 @@ use Rattle.hv_limits.specs.Limits.{lines_mask, pages_limit, steps_limit}
 use Rattle.hv_samples.specs.declared.choice.Sample.{Sample}
 use Rattle.hv_samples.specs.declared.choice.Sample.TheVariants.{Pass, Slicer, Forward, Pager}
 use Rattle.hv_line.specs.Commands.{command_of}
-use Rattle.hv_line.specs.JobLimits.{job_depth, job_harts, job_values}
+use Rattle.hv_line.specs.JobLimits.{depth_in, harts_in, job_values}
 use Rattle.hv_line.specs.Names.{is_name}
 use Rattle.hv_line.specs.Statements.{statement_of, storage_line_of}
 use Rattle.hv_line.specs.declared.types.DebugCommand.{DebugCommand}
@@ -14,6 +15,8 @@ use Rattle.hv_line.specs.declared.types.DebugCommand.TheVariants as command
 use Rattle.hv_line.specs.declared.types.Directive.TheVariants as directive
 use Rattle.hv_line.specs.declared.types.Statement.{Statement}
 use Rattle.hv_line.specs.declared.types.Statement.TheVariants as states
+use Rattle.hv_line.specs.declared.version.JobVersion.{JobVersion}
+use Rattle.hv_line.specs.declared.version.JobVersion.TheVariants.{Two}
 
 -- a word of a form: this text, this name, or this number, decimal or in hexadecimal behind `0x`
 pub data Word : Type 0 where
@@ -56,6 +59,10 @@ pub data Form : Type 0 where
   MapRead : (name : List ℕ) (page at : ℕ) → Form
   -- map NAME I rw P
   MapWrite : (name : List ℕ) (page at : ℕ) → Form
+  -- map NAME I rx P
+  MapFetch : (name : List ℕ) (page at : ℕ) → Form
+  -- map NAME I rwx P
+  MapAll : (name : List ℕ) (page at : ℕ) → Form
   -- start NAME A
   Start : (name : List ℕ) (at : ℕ) → Form
   -- image NAME A
@@ -76,6 +83,8 @@ pub data Form : Type 0 where
   Watch : (hart : ℕ) (name : List ℕ) → Form
   -- dump NAME I
   Dump : (name : List ℕ) (page : ℕ) → Form
+  -- upgrade NAME D
+  Upgrade : (name : List ℕ) (dir : ℕ) → Form
 
 -- the name of a sample
 abbrev pub sample_word : Sample → List ℕ
@@ -94,6 +103,8 @@ form_words (Machine name parent block pages table at) =
 form_words (MapNone name page) = Fixed (codes "map") ∷ Named name ∷ Spelt page ∷ Fixed (codes "none") ∷ []
 form_words (MapRead name page at) = Fixed (codes "map") ∷ Named name ∷ Spelt page ∷ Fixed (codes "ro") ∷ Spelt at ∷ []
 form_words (MapWrite name page at) = Fixed (codes "map") ∷ Named name ∷ Spelt page ∷ Fixed (codes "rw") ∷ Spelt at ∷ []
+form_words (MapFetch name page at) = Fixed (codes "map") ∷ Named name ∷ Spelt page ∷ Fixed (codes "rx") ∷ Spelt at ∷ []
+form_words (MapAll name page at) = Fixed (codes "map") ∷ Named name ∷ Spelt page ∷ Fixed (codes "rwx") ∷ Spelt at ∷ []
 form_words (Start name at) = Fixed (codes "start") ∷ Named name ∷ Spelt at ∷ []
 form_words (Image name at) = Fixed (codes "image") ∷ Named name ∷ Spelt at ∷ []
 form_words (Sampled name at which) = Fixed (codes "sample") ∷ Named name ∷ Spelt at ∷ Fixed (sample_word which) ∷ []
@@ -105,34 +116,39 @@ form_words (Turn hart count) = Fixed (codes "turn") ∷ Spelt hart ∷ Spelt cou
 form_words (Lines hart mask) = Fixed (codes "lines") ∷ Spelt hart ∷ Spelt mask ∷ []
 form_words (Watch hart name) = Fixed (codes "watch") ∷ Spelt hart ∷ Named name ∷ []
 form_words (Dump name page) = Fixed (codes "dump") ∷ Named name ∷ Spelt page ∷ []
+form_words (Upgrade name dir) = Fixed (codes "upgrade") ∷ Named name ∷ Spelt dir ∷ []
 
--- the values are in their ranges
-abbrev pub IsInRange : Form → Type 0
-IsInRange (Harts harts) = (1 ≤ harts) × (harts ≤ job_harts)
-IsInRange (Hart hart at) = (hart < job_harts) × (at % 4 ≡ 0)
-IsInRange (Machine name parent block pages table at) =
+-- the values are in the ranges of this version, which has this form
+abbrev pub IsInRange : JobVersion → Form → Type 0
+IsInRange version (Harts harts) = (1 ≤ harts) × (harts ≤ harts_in version)
+IsInRange version (Hart hart at) = (hart < harts_in version) × (at % 4 ≡ 0)
+IsInRange version (Machine name parent block pages table at) =
     (1 ≤ block) × (block < 2 ^ 20) × (1 ≤ pages) × (pages ≤ pages_limit) × (table < 2 ^ 20) × (at < 2 ^ 20)
-IsInRange (MapNone name page) = page < 2 ^ 20
-IsInRange (MapRead name page at) = (page < 2 ^ 20) × (at < 2 ^ 20)
-IsInRange (MapWrite name page at) = (page < 2 ^ 20) × (at < 2 ^ 20)
-IsInRange (Start name at) = at % 4 ≡ 0
-IsInRange (Image name at) = at % 4 ≡ 0
-IsInRange (Sampled name at which) = at % 4 ≡ 0
-IsInRange (Words name at values) = (at % 4 ≡ 0) × (1 ≤ length values) × (length values ≤ job_values)
-IsInRange (Tower depth pages) = (depth ≤ job_depth) × (1 ≤ pages) × (pages ≤ pages_limit)
-IsInRange (TowerOf depth pages which) =
-    (depth ≤ job_depth) × (1 ≤ pages) × (pages ≤ pages_limit) × ((which ≡ Pass) ⊎ (which ≡ Forward))
-IsInRange (Turn hart count) = (hart < job_harts) × (1 ≤ count) × (count ≤ steps_limit)
-IsInRange (Lines hart mask) = (hart < job_harts) × (bit_and mask lines_mask ≡ mask)
-IsInRange (Watch hart name) = hart < job_harts
-IsInRange (Dump name page) = page < 2 ^ 20
+IsInRange version (MapNone name page) = page < 2 ^ 20
+IsInRange version (MapRead name page at) = (page < 2 ^ 20) × (at < 2 ^ 20)
+IsInRange version (MapWrite name page at) = (page < 2 ^ 20) × (at < 2 ^ 20)
+IsInRange version (MapFetch name page at) = (version ≡ Two) × (page < 2 ^ 20) × (at < 2 ^ 20)
+IsInRange version (MapAll name page at) = (version ≡ Two) × (page < 2 ^ 20) × (at < 2 ^ 20)
+IsInRange version (Start name at) = at % 4 ≡ 0
+IsInRange version (Image name at) = at % 4 ≡ 0
+IsInRange version (Sampled name at which) = at % 4 ≡ 0
+IsInRange version (Words name at values) = (at % 4 ≡ 0) × (1 ≤ length values) × (length values ≤ job_values)
+IsInRange version (Tower depth pages) = (depth ≤ depth_in version) × (1 ≤ pages) × (pages ≤ pages_limit)
+IsInRange version (TowerOf depth pages which) =
+    (depth ≤ depth_in version) × (1 ≤ pages) × (pages ≤ pages_limit) × ((which ≡ Pass) ⊎ (which ≡ Forward))
+IsInRange version (Turn hart count) = (hart < harts_in version) × (1 ≤ count) × (count ≤ steps_limit)
+IsInRange version (Lines hart mask) = (hart < harts_in version) × (bit_and mask lines_mask ≡ mask)
+IsInRange version (Watch hart name) = hart < harts_in version
+IsInRange version (Dump name page) = page < 2 ^ 20
+IsInRange version (Upgrade name dir) = (version ≡ Two) × (dir < 2 ^ 20)
 
--- words of a form, in its range
-pub record IsLine (words : List (List ℕ)) (form : Form) : Type 0 where
-  pub range : IsInRange form
+-- words of a form that this version has, in its range
+pub record IsLine (version : JobVersion) (words : List (List ℕ)) (form : Form) : Type 0 where
+  pub range : IsInRange version form
   pub written : AreWords (form_words form) words
 
--- What a form says. An entry of a map has its bit 0 set where the page is there, and its bit 1 where it may be written.
+-- What a form says. An entry of a map has its bit 0 set where the page is there, its bit 1 where it may be written, and
+-- its bit 2 where it may be fetched from.
 abbrev pub states_for : Form → Statement
 states_for (Harts harts) = states.Harts harts
 states_for (Hart hart at) = states.Directive (directive.Hart hart at)
@@ -141,6 +157,8 @@ states_for (Machine name parent block pages table at) =
 states_for (MapNone name page) = states.Directive (directive.Map name page 0)
 states_for (MapRead name page at) = states.Directive (directive.Map name page (at * 4096 + 1))
 states_for (MapWrite name page at) = states.Directive (directive.Map name page (at * 4096 + 3))
+states_for (MapFetch name page at) = states.Directive (directive.Map name page (at * 4096 + 5))
+states_for (MapAll name page at) = states.Directive (directive.Map name page (at * 4096 + 7))
 states_for (Start name at) = states.Directive (directive.Start name at)
 states_for (Image name at) = states.Image name at
 states_for (Sampled name at which) = states.Sample name at which
@@ -151,16 +169,19 @@ states_for (Turn hart count) = states.Event (event.Turn hart count)
 states_for (Lines hart mask) = states.Event (event.Lines hart mask)
 states_for (Watch hart name) = states.Directive (directive.Watch hart name)
 states_for (Dump name page) = states.Directive (directive.Dump name page)
+states_for (Upgrade name dir) = states.Directive (directive.Upgrade name dir)
 
 -- words that say this
-pub record IsSaying (words : List (List ℕ)) (what : Statement) : Type 0 where
+pub record IsSaying (version : JobVersion) (words : List (List ℕ)) (what : Statement) : Type 0 where
   pub form : Form
-  pub line : IsLine words form
+  pub line : IsLine version words form
   pub states : states_for form ≡ what
 
 -- a line says something exactly where its words are those of a form that says it
 abbrev pub LineFormLaw : Type 0
-LineFormLaw = (words : List (List ℕ)) (what : Statement) → (statement_of words ≡ Ok what) ↔ IsSaying words what
+LineFormLaw =
+    (version : JobVersion) (words : List (List ℕ)) (what : Statement)
+    → (statement_of version words ≡ Ok what) ↔ IsSaying version words what
 
 -- A command of the debugger as it is written.
 pub data Call : Type 0 where
@@ -189,15 +210,15 @@ call_words (PathCall hart) = Fixed (codes "path") ∷ Spelt hart ∷ []
 call_words (MapCall name page) = Fixed (codes "map") ∷ Named name ∷ Spelt page ∷ []
 call_words FaultsCall = Fixed (codes "faults") ∷ []
 
--- the values of a command that are allowed
-abbrev pub IsCallInRange : Call → Type 0
-IsCallInRange (StepCall count) = (1 ≤ count) × (count ≤ steps_limit)
-IsCallInRange (BreakCall name at) = Unit {0}
-IsCallInRange (RegsCall name) = Unit {0}
-IsCallInRange (MemCall name at) = at % 4 ≡ 0
-IsCallInRange (PathCall hart) = hart < job_harts
-IsCallInRange (MapCall name page) = page < 2 ^ 20
-IsCallInRange FaultsCall = Unit {0}
+-- the values of a command that this version allows
+abbrev pub IsCallInRange : JobVersion → Call → Type 0
+IsCallInRange version (StepCall count) = (1 ≤ count) × (count ≤ steps_limit)
+IsCallInRange version (BreakCall name at) = Unit {0}
+IsCallInRange version (RegsCall name) = Unit {0}
+IsCallInRange version (MemCall name at) = at % 4 ≡ 0
+IsCallInRange version (PathCall hart) = hart < harts_in version
+IsCallInRange version (MapCall name page) = page < 2 ^ 20
+IsCallInRange version FaultsCall = Unit {0}
 
 -- the command that a form calls for
 abbrev pub calls_for : Call → DebugCommand
@@ -210,12 +231,14 @@ calls_for (MapCall name page) = command.Map name page
 calls_for FaultsCall = command.Faults
 
 -- words that are this command
-pub record IsCall (words : List (List ℕ)) (what : DebugCommand) : Type 0 where
+pub record IsCall (version : JobVersion) (words : List (List ℕ)) (what : DebugCommand) : Type 0 where
   pub call : Call
-  pub range : IsCallInRange call
+  pub range : IsCallInRange version call
   pub written : AreWords (call_words call) words
   pub calls : calls_for call ≡ what
 
 -- a line is a command exactly where its words are those of a form of that command
 abbrev pub CommandFormLaw : Type 0
-CommandFormLaw = (words : List (List ℕ)) (what : DebugCommand) → (command_of words ≡ Ok what) ↔ IsCall words what
+CommandFormLaw =
+    (version : JobVersion) (words : List (List ℕ)) (what : DebugCommand)
+    → (command_of version words ≡ Ok what) ↔ IsCall version words what

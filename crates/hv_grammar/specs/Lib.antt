@@ -1,3 +1,4 @@
+pub mod First
 pub mod Forms
 pub mod Kinds
 pub mod Said

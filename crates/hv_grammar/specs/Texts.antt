@@ -1,5 +1,5 @@
--- The way of a text through its places, line by line: the header, the storage, the directives with the images among
--- them, and then the commands of the debugger.
+-- The way of a text through its places, line by line: the header, which says the version, the storage, the directives
+-- with the images among them, and then the commands of the debugger.
 use Rattle.std.specs.Prelude.{◌≡◌, ◌≢◌, ◌↔◌, ℕ, ◌-◌, ◌≤◌, true, List, [], ◌∷◌, length, take, codes, Ok, Err}
 use Rattle.hv_lex.specs.Lines.{lines_of}
 use Rattle.hv_job.specs.JobOf.{job_of}
@@ -7,22 +7,29 @@ use Rattle.hv_line.specs.Lines.{is_allowed, words_of}
 use Rattle.hv_line.specs.declared.kinds.JobKind.{JobKind}
 use Rattle.hv_line.specs.declared.kinds.JobKind.TheVariants as fault
 use Rattle.hv_line.specs.declared.types.DebugCommand.{DebugCommand}
+use Rattle.hv_line.specs.declared.version.JobVersion.{JobVersion}
+use Rattle.hv_line.specs.declared.version.JobVersion.TheVariants.{One, Two}
 use Rattle.hv_job.specs.declared.job.Job.{Job}
 use Rattle.hv_grammar.specs.Said.{AreAssembled, Said, Called, Directed, Inner, Nothing, StorageOf, job_said}
 use Rattle.hv_grammar.specs.Within.{IsWithinLimits}
 use Rattle.hv_grammar.specs.Forms.{Form, Image, IsCall, IsLine, IsStorageLine}
 
--- where a line stands
+-- the word behind `job` in the header of a version
+abbrev pub version_word : JobVersion → List ℕ
+version_word One = codes "1"
+version_word Two = codes "2"
+
+-- where a line stands, and behind the header in which version
 pub data Place : Type 0 where
   BeforeHeader : Place
-  BeforeStorage : Place
-  AmongDirectives : Place
-  InsideImage : Place
-  AmongCommands : Place
+  BeforeStorage : (version : JobVersion) → Place
+  AmongDirectives : (version : JobVersion) → Place
+  InsideImage : (version : JobVersion) → Place
+  AmongCommands : (version : JobVersion) → Place
 
 -- not inside an image, whose lines are those of assembly
 abbrev pub IsOutside : Place → Type 0
-IsOutside InsideImage = ⊥
+IsOutside (InsideImage version) = ⊥
 IsOutside _ = Unit {0}
 
 -- a directive on one line
@@ -43,29 +50,35 @@ pub data Goes : Place → List ℕ → Said → Place → Type 0 where
   -- blanks, or a comment
   NoWords : {place : Place} {line : List ℕ} → IsOutside place → IsAllowed line → words_of line ≡ []
       → Goes place line Nothing place
-  -- job 1
-  Header : {line : List ℕ} → IsAllowed line → words_of line ≡ codes "job" ∷ codes "1" ∷ []
-      → Goes BeforeHeader line Nothing BeforeStorage
+  -- job 1, or job 2
+  Header : {line : List ℕ} (version : JobVersion) → IsAllowed line
+      → words_of line ≡ codes "job" ∷ version_word version ∷ []
+      → Goes BeforeHeader line Nothing (BeforeStorage version)
   -- storage P
-  StorageLine : {line : List ℕ} (pages : ℕ) → IsAllowed line → IsStorageLine (words_of line) pages
-      → Goes BeforeStorage line (StorageOf pages) AmongDirectives
+  StorageLine : {version : JobVersion} {line : List ℕ} (pages : ℕ) → IsAllowed line
+      → IsStorageLine (words_of line) pages
+      → Goes (BeforeStorage version) line (StorageOf pages) (AmongDirectives version)
   -- any other directive but an image
-  DirectiveLine : {line : List ℕ} (form : Form) → IsPlain form → IsAllowed line → IsLine (words_of line) form
-      → Goes AmongDirectives line (Directed form) AmongDirectives
+  DirectiveLine : {version : JobVersion} {line : List ℕ} (form : Form) → IsPlain form → IsAllowed line
+      → IsLine version (words_of line) form
+      → Goes (AmongDirectives version) line (Directed form) (AmongDirectives version)
   -- image NAME A
-  ImageLine : {line : List ℕ} (name : List ℕ) (at : ℕ) → IsAllowed line → IsLine (words_of line) (Image name at)
-      → Goes AmongDirectives line (Directed (Image name at)) InsideImage
+  ImageLine : {version : JobVersion} {line : List ℕ} (name : List ℕ) (at : ℕ) → IsAllowed line
+      → IsLine version (words_of line) (Image name at)
+      → Goes (AmongDirectives version) line (Directed (Image name at)) (InsideImage version)
   -- a line of assembly
-  InnerLine : {line : List ℕ} → words_of line ≢ codes "end" ∷ [] → Goes InsideImage line (Inner line) InsideImage
+  InnerLine : {version : JobVersion} {line : List ℕ} → words_of line ≢ codes "end" ∷ []
+      → Goes (InsideImage version) line (Inner line) (InsideImage version)
   -- end
-  EndLine : {line : List ℕ} → IsAllowed line → IsAlone (codes "end") line
-      → Goes InsideImage line Nothing AmongDirectives
+  EndLine : {version : JobVersion} {line : List ℕ} → IsAllowed line → IsAlone (codes "end") line
+      → Goes (InsideImage version) line Nothing (AmongDirectives version)
   -- debug
-  DebugLine : {line : List ℕ} → IsAllowed line → IsAlone (codes "debug") line
-      → Goes AmongDirectives line Nothing AmongCommands
+  DebugLine : {version : JobVersion} {line : List ℕ} → IsAllowed line → IsAlone (codes "debug") line
+      → Goes (AmongDirectives version) line Nothing (AmongCommands version)
   -- a command
-  CommandLine : {line : List ℕ} (what : DebugCommand) → IsAllowed line → IsCall (words_of line) what
-      → Goes AmongCommands line (Called (words_of line) what) AmongCommands
+  CommandLine : {version : JobVersion} {line : List ℕ} (what : DebugCommand) → IsAllowed line
+      → IsCall version (words_of line) what
+      → Goes (AmongCommands version) line (Called (words_of line) what) (AmongCommands version)
 
 -- from which place lines go to which, one after another, and what they say
 abbrev pub GoesOn : Place → List (List ℕ) → List Said → Place → Type 0
@@ -75,8 +88,8 @@ GoesOn _ _ _ _ = ⊥
 
 -- a text may end here
 abbrev pub IsOver : Place → Type 0
-IsOver AmongDirectives = Unit {0}
-IsOver AmongCommands = Unit {0}
+IsOver (AmongDirectives version) = Unit {0}
+IsOver (AmongCommands version) = Unit {0}
 IsOver _ = ⊥
 
 -- the lines go through the places from the header on, what they assemble is assembled, the limits are kept, and the

@@ -20,8 +20,8 @@ harts_lines [] = 0
 harts_lines (said ∷ says) = harts_lines says + harts_by_line said
 
 -- At most one line says the number of harts. The directives take no more than there is of what is limited: machines,
--- watches, dumps, and bytes of all images and samples together. There are few enough steps of all turns together, events,
--- commands, and breakpoints among these.
+-- watches, dumps, and bytes of all images and samples together. There are few enough steps of all turns together,
+-- events, commands, and breakpoints among these.
 pub record IsWithinLimits (says : List Said) : Type 0 where
   pub harts : harts_lines says ≤ 1
   pub limits : (of : Limited) → amount_of of (placed_said 1 says) ≤ limit_of of

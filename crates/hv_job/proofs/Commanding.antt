@@ -10,6 +10,7 @@ use Rattle.hv_line.specs.declared.kinds.JobLineEnd.{JobLineEnd}
 use Rattle.hv_line.specs.declared.kinds.JobLineEnd.TheVariants as lined
 use Rattle.hv_line.specs.declared.types.DebugCommand.{DebugCommand}
 use Rattle.hv_line.specs.declared.types.DebugCommand.TheVariants as command
+use Rattle.hv_line.specs.declared.version.JobVersion.{JobVersion}
 use Rattle.hv_job.specs.Commands.{commands_from, commands_then, commands_with, is_over, line_commands}
 use Rattle.hv_job.specs.Drafted.{Refuses, end_at}
 use Rattle.hv_job.specs.IsJob.{breaks_in, is_break}
@@ -36,21 +37,21 @@ room_commands commands _ few = grind (arith, nat_tests)
 abbrev Commanded : Type 0
 Commanded = Result (List DebugLine) (ℕ × JobKind)
 
-pub commands_end : (commands : List DebugLine) (n : ℕ) (s : List ℕ) (all : Commanded) → length s ≡ 0 → commands_from commands n (lines_of s) ≡ all → all ≡ Ok commands
+pub commands_end : (version : JobVersion) (commands : List DebugLine) (n : ℕ) (s : List ℕ) (all : Commanded) → length s ≡ 0 → commands_from version commands n (lines_of s) ≡ all → all ≡ Ok commands
 unfolding commands_from
-commands_end commands n s all none told = sym told ∙ ap (commands_from commands n) (no_lines s none)
+commands_end version commands n s all none told = sym told ∙ ap (commands_from version commands n) (no_lines s none)
 
-module _ (commands : List DebugLine) (n : ℕ) (s line behind : List ℕ) (all : Commanded) (cut : lines_of s ≡ line ∷ lines_of behind) (told : commands_from commands n (lines_of s) ≡ all) where
+module _ (version : JobVersion) (commands : List DebugLine) (n : ℕ) (s line behind : List ℕ) (all : Commanded) (cut : lines_of s ≡ line ∷ lines_of behind) (told : commands_from version commands n (lines_of s) ≡ all) where
   abbrev next : List DebugLine → Commanded
-  next new = commands_from new (n + 1) (lines_of behind)
+  next new = commands_from version new (n + 1) (lines_of behind)
 
-  commands_is : commands_from commands n (lines_of s) ≡ commands_then n (line_commands commands n line) next
+  commands_is : commands_from version commands n (lines_of s) ≡ commands_then n (line_commands version commands n line) next
   unfolding commands_from
-  commands_is = ap (commands_from commands n) cut
+  commands_is = ap (commands_from version commands n) cut
 
-  pub commands_more : (new : List DebugLine) → line_commands commands n line ≡ Ok new → commands_from new (n + 1) (lines_of behind) ≡ all
+  pub commands_more : (new : List DebugLine) → line_commands version commands n line ≡ Ok new → commands_from version new (n + 1) (lines_of behind) ≡ all
   commands_more new made = sym (ap (λ r. commands_then n r next) made) ∙ sym commands_is ∙ told
 
-  pub commands_refused : (end : JobLineEnd) → LineRefuses end (line_commands commands n line) → Refuses (end_at end n) all
+  pub commands_refused : (end : JobLineEnd) → LineRefuses end (line_commands version commands n line) → Refuses (end_at end n) all
   commands_refused (lined.Fault kind) made = sym told ∙ commands_is ∙ ap (λ r. commands_then n r next) made
   commands_refused lined.Memory made = tt

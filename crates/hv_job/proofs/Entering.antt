@@ -9,6 +9,7 @@ use Rattle.hv_line.specs.Ranges.{IsCommand}
 use Rattle.hv_line.specs.declared.kinds.JobKind.{JobKind}
 use Rattle.hv_line.specs.declared.kinds.JobKind.TheVariants as fault
 use Rattle.hv_line.specs.declared.types.DebugCommand.{DebugCommand}
+use Rattle.hv_line.specs.declared.version.JobVersion.{JobVersion}
 use Rattle.hv_line.proofs.Ranging.{command_ranged, then_ok}
 use Rattle.hv_job.specs.Commands.{line_commands, commands_from, commands_then, commands_with, new_commands, is_over}
 use Rattle.hv_job.specs.IsJob.{breaks_in}
@@ -49,13 +50,13 @@ with_choice false words commands new r is goes made = cc
 with_choice true false commands new r is goes made = subst AreCommands (ok_list commands new made) is
 with_choice true true commands new r is goes made = goes made
 
-with_is : (commands new : List DebugLine) (n : ℕ) (line : List ℕ) → AreCommands commands → line_commands commands n line ≡ Ok new → AreCommands new
+with_is : (version : JobVersion) (commands new : List DebugLine) (n : ℕ) (line : List ℕ) → AreCommands commands → line_commands version commands n line ≡ Ok new → AreCommands new
 unfolding line_commands
-with_is commands new n line is made =
-    with_choice (is_allowed line) (has_words line) commands new (command_of (words_of line) >>= new_commands commands n (words_of line)) is
+with_is version commands new n line is made =
+    with_choice (is_allowed line) (has_words line) commands new (command_of version (words_of line) >>= new_commands commands n (words_of line)) is
     (λ told.
-    let s = then_ok (command_of (words_of line)) (new_commands commands n (words_of line)) new told in
-    entered_is commands new n (words_of line) s.0 is (command_ranged (words_of line) s.0 s.1) s.2) made
+    let s = then_ok (command_of version (words_of line)) (new_commands commands n (words_of line)) new told in
+    entered_is commands new n (words_of line) s.0 is (command_ranged version (words_of line) s.0 s.1) s.2) made
 
 then_is : (n : ℕ) (r : Result (List DebugLine) JobKind) (next : List DebugLine → Result (List DebugLine) (ℕ × JobKind)) (new : List DebugLine) → commands_then n r next ≡ Ok new → (mid : List DebugLine) × (r ≡ Ok mid) × (next mid ≡ Ok new)
 then_is n (Ok mid) next new made = (mid, refl, made)
@@ -64,9 +65,9 @@ then_is n (Err kind) next new made = cc
 ok_commands : (x y : List DebugLine) → (let r : Result (List DebugLine) (ℕ × JobKind) = Ok x in r) ≡ Ok y → x ≡ y
 ok_commands x y is = cc
 
-pub commands_are : (lines : List (List ℕ)) (commands new : List DebugLine) (n : ℕ) → AreCommands commands → commands_from commands n lines ≡ Ok new → AreCommands new
+pub commands_are : (version : JobVersion) (lines : List (List ℕ)) (commands new : List DebugLine) (n : ℕ) → AreCommands commands → commands_from version commands n lines ≡ Ok new → AreCommands new
 unfolding commands_from
-commands_are [] commands new n is made = subst AreCommands (ok_commands commands new made) is
-commands_are (line ∷ lines) commands new n is made =
-    let s = then_is n (line_commands commands n line) (λ next. commands_from next (n + 1) lines) new made in
-    commands_are lines s.0 new (n + 1) (with_is commands s.0 n line is s.1) s.2
+commands_are version [] commands new n is made = subst AreCommands (ok_commands commands new made) is
+commands_are version (line ∷ lines) commands new n is made =
+    let s = then_is n (line_commands version commands n line) (λ next. commands_from version next (n + 1) lines) new made in
+    commands_are version lines s.0 new (n + 1) (with_is version commands s.0 n line is s.1) s.2

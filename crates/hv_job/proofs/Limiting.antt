@@ -18,7 +18,7 @@ use Rattle.hv_limits.specs.Limits.{events_limit, steps_limit}
 use Rattle.hv_lex.specs.Lines.{lines_of}
 use Rattle.hv_samples.specs.Samples.{sample_text}
 use Rattle.hv_line.specs.JobLimits.{job_harts}
-use Rattle.hv_line.specs.Lines.{begins_with, has_words, is_allowed, is_header, words_of}
+use Rattle.hv_line.specs.Lines.{begins_with, has_words, is_allowed, version_of, words_of}
 use Rattle.hv_line.specs.Ranges.{IsImage, IsRanged, IsSize, IsStatement, has_event}
 use Rattle.hv_line.specs.Statements.{statement_of, storage_line_of}
 use Rattle.hv_line.specs.declared.kinds.JobKind.{JobKind}
@@ -27,11 +27,12 @@ use Rattle.hv_line.specs.declared.types.Directive.{Directive}
 use Rattle.hv_line.specs.declared.types.Directive.TheVariants as directive
 use Rattle.hv_line.specs.declared.types.Statement.{Statement}
 use Rattle.hv_line.specs.declared.types.Statement.TheVariants as states
+use Rattle.hv_line.specs.declared.version.JobVersion.{JobVersion}
 use Rattle.hv_line.proofs.Ranging.{statement_ranged, storage_ranged}
 use Rattle.hv_job.specs.Commands.{commands_from}
 use Rattle.hv_job.specs.Drafted.{GivesJob}
 use Rattle.hv_job.specs.IsJob.{IsJob, event_in, event_of, happening_of}
-use Rattle.hv_job.specs.JobOf.{begins_image, before_end, behind_storage, body_from, directive_with, draft_of, draft_with, event_directive, event_with, harts_with, header_from, image_lines_with, image_of, image_with, image_words, is_debug, is_end, is_many, job_in, job_of, job_with, line_with, lines_with, sample_with, schedule_with, storage_from, words_with}
+use Rattle.hv_job.specs.JobOf.{begins_image, before_end, behind_header, behind_storage, body_from, directive_with, draft_of, draft_with, event_directive, event_with, harts_with, header_from, image_lines_with, image_of, image_with, image_words, is_debug, is_end, is_many, job_in, job_of, job_with, line_with, lines_with, sample_with, schedule_with, storage_from, words_with}
 use Rattle.hv_job.specs.Limited.{amount_of, limit_of}
 use Rattle.hv_job.specs.declared.draft.Draft.{Draft}
 use Rattle.hv_job.specs.declared.ends.JobEnd.{JobEnd}
@@ -53,8 +54,8 @@ pub record IsDraft (draft : Draft) : Type 0 where
   pub steps : total_of draft.recording ≤ steps_limit
   pub many : length draft.recording ≤ events_limit
 
-draft_start : (pages : ℕ) → IsSize pages → IsDraft (draft_of pages)
-draft_start pages size = record {
+draft_start : (version : JobVersion) (pages : ℕ) → IsSize pages → IsDraft (draft_of version pages)
+draft_start version pages size = record {
   pages = size;
   harts = λ n is. cc;
   lines = All-nil (λ (p : Placed). IsRanged p.what);
@@ -212,8 +213,8 @@ line_is : (draft new : Draft) (n : ℕ) (line : List ℕ) (behind : List (List �
 unfolding line_with
 line_is draft new n line behind is made =
     line_choice (is_allowed line) (has_words line) (begins_with (codes "debug") (words_of line)) draft new n
-    (words_with draft n behind (statement_of (words_of line))) is
-    (words_is draft new n behind (statement_of (words_of line)) is (statement_ranged (words_of line))) made
+    (words_with draft n behind (statement_of draft.version (words_of line))) is
+    (words_is draft new n behind (statement_of draft.version (words_of line)) is (statement_ranged draft.version (words_of line))) made
 
 abbrev Answered : Type 0
 Answered = Result Job (ℕ × JobKind)
@@ -222,9 +223,9 @@ next_ok : (r : Drafted) (next : Draft → Answered) (job : Job) → (r >>= next)
 next_ok (Ok new) next job made = (new, refl, made)
 next_ok (Err e) next job made = cc
 
-harts_in : (o : Option ℕ) → ((n : ℕ) → o ≡ Some n → (1 ≤ n) × (n ≤ job_harts)) → (1 ≤ unwrap_or o 1) × (unwrap_or o 1 ≤ job_harts)
-harts_in (Some n) ranged = ranged n refl
-harts_in None ranged = (omega arith, omega arith)
+harts_kept : (o : Option ℕ) → ((n : ℕ) → o ≡ Some n → (1 ≤ n) × (n ≤ job_harts)) → (1 ≤ unwrap_or o 1) × (unwrap_or o 1 ≤ job_harts)
+harts_kept (Some n) ranged = ranged n refl
+harts_kept None ranged = (omega arith, omega arith)
 
 -- the job of a text, whose schedule keeps its limits
 pub record IsReadJob (job : Job) : Type 0 where
@@ -238,7 +239,7 @@ job_in_is draft commands is are = record {
   many = is.many;
   is = record {
     pages = is.pages;
-    harts = harts_in draft.harts is.harts;
+    harts = harts_kept draft.harts is.harts;
     lines = is.lines;
     events = is.events;
     limits = is.limits;
@@ -264,40 +265,43 @@ unfolding body_from
 body_is [] draft inside n job is made = subst IsReadJob (ok_job _ job made) (job_in_is draft [] is no_commands)
 body_is (line ∷ lines) draft true n job is made = body_is lines draft (not (is_end line)) (n + 1) job is made
 body_is (line ∷ lines) draft false n job is made =
-    found_or (is_debug line) (job_with draft (commands_from [] (n + 1) lines))
-    ((line_with draft n line lines) >>= (λ next. body_from next (begins_image line) (n + 1) lines)) job
-    (ended_is draft (commands_from [] (n + 1) lines) job is (λ commands told. commands_are lines [] commands (n + 1) no_commands told))
+    found_or (is_debug line) (job_with draft (commands_from draft.version [] (n + 1) lines))
+    ((line_with draft n line lines) >>= (λ next. body_from next (begins_image draft.version line) (n + 1) lines)) job
+    (ended_is draft (commands_from draft.version [] (n + 1) lines) job is
+    (λ commands told. commands_are draft.version lines [] commands (n + 1) no_commands told))
     (λ told.
-    let s = next_ok (line_with draft n line lines) (λ next. body_from next (begins_image line) (n + 1) lines) job told in
-    body_is lines s.0 (begins_image line) (n + 1) job (line_is draft s.0 n line lines is s.1) s.2) made
+    let s = next_ok (line_with draft n line lines) (λ next. body_from next (begins_image draft.version line) (n + 1) lines) job told in
+    body_is lines s.0 (begins_image draft.version line) (n + 1) job (line_is draft s.0 n line lines is s.1) s.2) made
 
-behind_storage_is : (n : ℕ) (lines words : List (List ℕ)) (r : Result ℕ JobKind) (job : Job) → storage_line_of words ≡ r → behind_storage n lines r ≡ Ok job → IsReadJob job
-behind_storage_is n lines words (Ok pages) job is made = body_is lines (draft_of pages) false (n + 1) job (draft_start pages (storage_ranged words pages is)) made
-behind_storage_is n lines words (Err kind) job is made = cc
+behind_storage_is : (version : JobVersion) (n : ℕ) (lines words : List (List ℕ)) (r : Result ℕ JobKind) (job : Job) → storage_line_of words ≡ r → behind_storage version n lines r ≡ Ok job → IsReadJob job
+behind_storage_is version n lines words (Ok pages) job is made =
+    body_is lines (draft_of version pages) false (n + 1) job (draft_start version pages (storage_ranged words pages is)) made
+behind_storage_is version n lines words (Err kind) job is made = cc
 
 storage_choice : (allowed words : Bool) (n : ℕ) (skip stored : Answered) (job : Job) → (skip ≡ Ok job → IsReadJob job) → (stored ≡ Ok job → IsReadJob job) → cond (not allowed) (Err (n, fault.Byte)) (cond (not words) skip stored) ≡ Ok job → IsReadJob job
 storage_choice false words n skip stored job f g made = cc
 storage_choice true false n skip stored job f g made = f made
 storage_choice true true n skip stored job f g made = g made
 
-storage_is : (lines : List (List ℕ)) (n : ℕ) (job : Job) → storage_from n lines ≡ Ok job → IsReadJob job
+storage_is : (version : JobVersion) (lines : List (List ℕ)) (n : ℕ) (job : Job) → storage_from version n lines ≡ Ok job → IsReadJob job
 unfolding storage_from
-storage_is [] n job made = cc
-storage_is (line ∷ lines) n job made =
-    storage_choice (is_allowed line) (has_words line) n (storage_from (n + 1) lines) (behind_storage n lines (storage_line_of (words_of line))) job
-    (storage_is lines (n + 1) job) (behind_storage_is n lines (words_of line) (storage_line_of (words_of line)) job refl) made
+storage_is version [] n job made = cc
+storage_is version (line ∷ lines) n job made =
+    storage_choice (is_allowed line) (has_words line) n (storage_from version (n + 1) lines)
+    (behind_storage version n lines (storage_line_of (words_of line))) job
+    (storage_is version lines (n + 1) job) (behind_storage_is version n lines (words_of line) (storage_line_of (words_of line)) job refl) made
 
-found_is : (header : Bool) (n : ℕ) (stored : Answered) (job : Job) → (stored ≡ Ok job → IsReadJob job) → cond header stored (Err (n, fault.Header)) ≡ Ok job → IsReadJob job
-found_is true n stored job f made = f made
-found_is false n stored job f made = cc
+behind_header_is : (n : ℕ) (lines : List (List ℕ)) (form : Option JobVersion) (job : Job) → behind_header n lines form ≡ Ok job → IsReadJob job
+behind_header_is n lines (Some version) job made = storage_is version lines (n + 1) job made
+behind_header_is n lines None job made = cc
 
 header_is : (lines : List (List ℕ)) (n : ℕ) (job : Job) → header_from n lines ≡ Ok job → IsReadJob job
 unfolding header_from
 header_is [] n job made = cc
 header_is (line ∷ lines) n job made =
     storage_choice (is_allowed line) (has_words line) n (header_from (n + 1) lines)
-    (cond (is_header (words_of line)) (storage_from (n + 1) lines) (Err (n, fault.Header))) job
-    (header_is lines (n + 1) job) (found_is (is_header (words_of line)) n (storage_from (n + 1) lines) job (storage_is lines (n + 1) job)) made
+    (behind_header n lines (version_of (words_of line))) job
+    (header_is lines (n + 1) job) (behind_header_is n lines (version_of (words_of line)) job) made
 
 pub text_is : (text : List ℕ) (job : Job) → job_of text ≡ Ok job → IsReadJob job
 unfolding job_of

@@ -7,6 +7,7 @@ use Rattle.hv_line.specs.declared.kinds.JobKind.{JobKind}
 use Rattle.hv_line.specs.declared.kinds.JobKind.TheVariants as fault
 use Rattle.hv_line.specs.declared.types.DebugCommand.{DebugCommand}
 use Rattle.hv_line.specs.declared.types.DebugCommand.TheVariants as command
+use Rattle.hv_line.specs.declared.version.JobVersion.{JobVersion}
 use Rattle.hv_job.specs.IsJob.{breaks_in}
 use Rattle.hv_job.specs.declared.job.DebugLine.{DebugLine}
 use Rattle.hv_lex.specs.Refusing.{◌>>=◌}
@@ -27,11 +28,11 @@ new_commands commands number words what =
     if is_over commands what then Err fault.Many else Ok (commands_with commands number (join_words_of words) what)
 
 -- the commands with that of a line, which may have no words
-unfoldable pub line_commands : List DebugLine → ℕ → List ℕ → Result (List DebugLine) JobKind
-line_commands commands number line =
+unfoldable pub line_commands : JobVersion → List DebugLine → ℕ → List ℕ → Result (List DebugLine) JobKind
+line_commands version commands number line =
     if not (is_allowed line) then Err fault.Byte
     else if not (has_words line) then Ok commands
-    else command_of (words_of line) >>= new_commands commands number (words_of line)
+    else command_of version (words_of line) >>= new_commands commands number (words_of line)
 
 -- what follows where the line was no fault
 abbrev pub commands_then :
@@ -41,7 +42,9 @@ commands_then number (Ok commands) next = next commands
 commands_then number (Err kind) next = Err (number, kind)
 
 -- these commands and those of the lines behind, the first of which has this number
-unfoldable pub commands_from : List DebugLine → ℕ → List (List ℕ) → Result (List DebugLine) (ℕ × JobKind)
-commands_from commands number [] = Ok commands
-commands_from commands number (line ∷ lines) =
-    commands_then number (line_commands commands number line) (λ next. commands_from next (number + 1) lines)
+unfoldable pub commands_from :
+    JobVersion → List DebugLine → ℕ → List (List ℕ) → Result (List DebugLine) (ℕ × JobKind)
+commands_from version commands number [] = Ok commands
+commands_from version commands number (line ∷ lines) =
+    commands_then number (line_commands version commands number line)
+    (λ next. commands_from version next (number + 1) lines)

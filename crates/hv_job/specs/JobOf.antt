@@ -10,7 +10,7 @@ use Rattle.hv_irq.specs.declared.PushEnd.{PushEnd}
 use Rattle.hv_irq.specs.declared.PushEnd.TheVariants as pushed
 use Rattle.hv_lex.specs.Lines.{lines_of}
 use Rattle.hv_samples.specs.Samples.{sample_text}
-use Rattle.hv_line.specs.Lines.{begins_with, has_words, is_allowed, is_header, is_only, words_of}
+use Rattle.hv_line.specs.Lines.{begins_with, has_words, is_allowed, is_only, version_of, words_of}
 use Rattle.hv_line.specs.Statements.{statement_of, storage_line_of}
 use Rattle.hv_line.specs.declared.kinds.JobKind.{JobKind}
 use Rattle.hv_line.specs.declared.kinds.JobKind.TheVariants as fault
@@ -18,6 +18,7 @@ use Rattle.hv_line.specs.declared.types.Directive.{Directive}
 use Rattle.hv_line.specs.declared.types.Directive.TheVariants as directive
 use Rattle.hv_line.specs.declared.types.Statement.{Statement}
 use Rattle.hv_line.specs.declared.types.Statement.TheVariants as states
+use Rattle.hv_line.specs.declared.version.JobVersion.{JobVersion}
 use Rattle.hv_job.specs.Commands.{commands_from}
 use Rattle.hv_job.specs.Limited.{amount_of, limit_of, taken_by}
 use Rattle.hv_job.specs.declared.draft.Draft.{Draft}
@@ -151,7 +152,7 @@ line_with draft number line behind =
     if not (is_allowed line) then Err (number, fault.Byte)
     else if not (has_words line) then Ok draft
     else if begins_with (codes "debug") (words_of line) then Err (number, fault.Words)
-    else words_with draft number behind (statement_of (words_of line))
+    else words_with draft number behind (statement_of draft.version (words_of line))
 
 -- whether a line begins an image
 abbrev pub is_image : Result Statement JobKind → Bool
@@ -159,8 +160,8 @@ is_image (Ok (states.Image name at)) = true
 is_image _ = false
 
 -- the lines of an image come next
-unfoldable pub begins_image : List ℕ → Bool
-begins_image line = is_image (statement_of (words_of line))
+unfoldable pub begins_image : JobVersion → List ℕ → Bool
+begins_image version line = is_image (statement_of version (words_of line))
 
 -- the job of all directives and of the commands behind them
 abbrev pub job_in : Draft → List DebugLine → Job
@@ -183,25 +184,32 @@ unfoldable pub body_from : Draft → Bool → ℕ → List (List ℕ) → ReadJo
 body_from draft inside number [] = Ok (job_in draft [])
 body_from draft true number (line ∷ lines) = body_from draft (not (is_end line)) (number + 1) lines
 body_from draft false number (line ∷ lines) =
-    if is_debug line then job_with draft (commands_from [] (number + 1) lines)
-    else (line_with draft number line lines >>= λ next. body_from next (begins_image line) (number + 1) lines)
+    if is_debug line then job_with draft (commands_from draft.version [] (number + 1) lines)
+    else (do
+      next ← line_with draft number line lines
+      body_from next (begins_image draft.version line) (number + 1) lines)
 
--- nothing but a storage
-abbrev pub draft_of : ℕ → Draft
-draft_of pages = record { pages = pages; harts = None; lines = []; recording = [] }
+-- nothing but the form of a text and its storage
+abbrev pub draft_of : JobVersion → ℕ → Draft
+draft_of version pages = record { version = version; pages = pages; harts = None; lines = []; recording = [] }
 
 -- the job of the lines behind the storage's, or the refusal of that line
-abbrev pub behind_storage : ℕ → List (List ℕ) → Result ℕ JobKind → ReadJob
-behind_storage number lines (Ok pages) = body_from (draft_of pages) false (number + 1) lines
-behind_storage number lines (Err kind) = Err (number, kind)
+abbrev pub behind_storage : JobVersion → ℕ → List (List ℕ) → Result ℕ JobKind → ReadJob
+behind_storage version number lines (Ok pages) = body_from (draft_of version pages) false (number + 1) lines
+behind_storage version number lines (Err kind) = Err (number, kind)
 
 -- the job of the lines behind the header
-unfoldable pub storage_from : ℕ → List (List ℕ) → ReadJob
-storage_from number [] = Err (number, fault.Storage)
-storage_from number (line ∷ lines) =
+unfoldable pub storage_from : JobVersion → ℕ → List (List ℕ) → ReadJob
+storage_from version number [] = Err (number, fault.Storage)
+storage_from version number (line ∷ lines) =
     if not (is_allowed line) then Err (number, fault.Byte)
-    else if not (has_words line) then storage_from (number + 1) lines
-    else behind_storage number lines (storage_line_of (words_of line))
+    else if not (has_words line) then storage_from version (number + 1) lines
+    else behind_storage version number lines (storage_line_of (words_of line))
+
+-- the job of the lines behind the header's, which says the form of the text, or the refusal of that line
+abbrev pub behind_header : ℕ → List (List ℕ) → Option JobVersion → ReadJob
+behind_header number lines (Some version) = storage_from version (number + 1) lines
+behind_header number lines None = Err (number, fault.Header)
 
 -- the job of the lines from its beginning
 unfoldable pub header_from : ℕ → List (List ℕ) → ReadJob
@@ -209,8 +217,7 @@ header_from number [] = Err (number, fault.Header)
 header_from number (line ∷ lines) =
     if not (is_allowed line) then Err (number, fault.Byte)
     else if not (has_words line) then header_from (number + 1) lines
-    else if is_header (words_of line) then storage_from (number + 1) lines
-    else Err (number, fault.Header)
+    else behind_header number lines (version_of (words_of line))
 
 -- the job of a text
 unfoldable pub job_of : List ℕ → ReadJob

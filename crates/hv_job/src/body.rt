@@ -6,6 +6,7 @@ ghost use Rattle.hv_job.specs.Drafted.{ContinuesAt, GivesDraft, GivesJob, LeadsT
 ghost use Rattle.hv_line.specs.Ranges.{IsStatement};
 ghost use Rattle.hv_job.specs.JobOf.{draft_with, begins_image, body_from, draft_of, header_from, is_debug as is_debug_of, is_image, line_with, storage_from};
 ghost use Rattle.hv_line.specs.Lines.{words_of};
+ghost use Rattle.hv_line.specs.declared.version.JobVersion.{JobVersion};
 
 use crate::commands::read_commands;
 use crate::draft::Draft;
@@ -14,17 +15,17 @@ use crate::images::{Rest, at_line, read_image};
 use crate::job::Job;
 use hv_lex::first_line;
 use hv_line::{
-    JobKind, JobLineEnd, Statement, begins_with, has_allowed_bytes, has_words, is_header, is_only,
-    read_statement, read_storage_line,
+    JobKind, JobLineEnd, JobVersion, Statement, begins_with, has_allowed_bytes, has_words, is_only,
+    read_statement, read_storage_line, read_version,
 };
 use hv_list::Items;
 use std::alloc::Global;
 
-/// What is behind the header line.
-pub(crate) fn read_header(text: &[u8]) -> Result<Rest<'_>, JobEnd>
+/// Which form the text has, and what is behind its header line.
+pub(crate) fn read_header(text: &[u8]) -> Result<(JobVersion, Rest<'_>), JobEnd>
     requires { length text.now + 1 < 2 ^ 32 }
-    ensures rest { LeadsTo result (header_from 1 (lines_of text.now)) (λ rest. storage_from rest.number (lines_of rest.text.now)) }
-    ensures size { IfOk result (λ rest. rest.number + length rest.text.now ≤ length text.now + 1) }
+    ensures rest { LeadsTo result (header_from 1 (lines_of text.now)) (λ found. storage_from found.0 found.1.number (lines_of found.1.text.now)) }
+    ensures size { IfOk result (λ found. found.1.number + length found.1.text.now ≤ length text.now + 1) }
 {
     let mut rest = text;
     let mut number = 1;
@@ -34,13 +35,14 @@ pub(crate) fn read_header(text: &[u8]) -> Result<Rest<'_>, JobEnd>
             return refused(number, JobKind::Byte);
         }
         if has_words(line) {
-            if !is_header(line) {
+            let Some(version) = read_version(line) else {
                 return refused(number, JobKind::Header);
-            }
-            return Ok(Rest {
+            };
+            let rest = Rest {
                 text: behind,
                 number: number + 1,
-            });
+            };
+            return Ok((version, rest));
         }
         number += 1;
         rest = behind;
@@ -48,10 +50,11 @@ pub(crate) fn read_header(text: &[u8]) -> Result<Rest<'_>, JobEnd>
     refused(number, JobKind::Header)
 }
 
-/// The pages of the storage, and what is behind its line.
+/// The pages of the storage, and what is behind its line. The line is the same in texts of each form.
 pub(crate) fn read_storage(text: &[u8], first: u32) -> Result<(u32, Rest<'_>), JobEnd>
     requires { first + length text.now < 2 ^ 32 }
-    ensures rest { LeadsTo result (storage_from first (lines_of text.now)) (λ found. body_from (draft_of found.0) false found.1.number (lines_of found.1.text.now)) }
+    ensures rest { (version : JobVersion) → LeadsTo result (storage_from version first (lines_of text.now))
+        (λ found. body_from (draft_of version found.0) false found.1.number (lines_of found.1.text.now)) }
     ensures size { IfOk result (λ found. found.1.number + length found.1.text.now ≤ first + length text.now) }
 {
     let mut rest = text;
@@ -80,17 +83,23 @@ pub(crate) fn read_storage(text: &[u8], first: u32) -> Result<(u32, Rest<'_>), J
 }
 
 /// The job of a storage and of all lines behind it.
-pub(crate) fn read_body(alloc: Global, pages: u32, text: &[u8], first: u32) -> Result<Job, JobEnd>
+pub(crate) fn read_body(
+    alloc: Global,
+    version: JobVersion,
+    pages: u32,
+    text: &[u8],
+    first: u32,
+) -> Result<Job, JobEnd>
     requires { first + length text.now < 2 ^ 32 }
-    ensures { GivesJob result (body_from (draft_of pages) false first (lines_of text.now)) }
+    ensures { GivesJob result (body_from (draft_of version pages) false first (lines_of text.now)) }
 {
-    let mut draft = Draft::new(alloc, pages);
+    let mut draft = Draft::new(alloc, version, pages);
     let mut rest = text;
     let mut number = first;
     while !rest.is_empty() {
         let (line, behind) = first_line(rest);
         if is_debug(line) {
-            let commands = read_commands(alloc, behind, number + 1)?;
+            let commands = read_commands(alloc, draft.version, behind, number + 1)?;
             return Ok(draft.into_job(commands));
         }
         let next = read_line(alloc, &mut draft, number, line, behind)?;
@@ -119,7 +128,7 @@ fn read_line<'a>(
 ) -> Result<Rest<'a>, JobEnd>
     requires { number + length behind.now + 1 < 2 ^ 32 }
     ensures draft { GivesDraft result (line_with draft.old number line.now (lines_of behind.now)) draft.new }
-    ensures rest { IfOk result (λ rest. body_from draft.new (begins_image line.now) (number + 1) (lines_of behind.now)
+    ensures rest { IfOk result (λ rest. body_from draft.new (begins_image draft.old.version line.now) (number + 1) (lines_of behind.now)
         ≡ body_from draft.new false rest.number (lines_of rest.text.now)) }
     ensures size { IfOk result (λ rest. rest.number + length rest.text.now ≤ number + 1 + length behind.now) }
     ensures later { IfOk result (λ rest. number < rest.number) }
@@ -136,7 +145,7 @@ fn read_line<'a>(
     if begins_with(b"debug", line) {
         return refused(number, JobKind::Words);
     }
-    match read_statement(alloc, line) {
+    match read_statement(alloc, draft.version, line) {
         Ok(statement) => add(alloc, draft, number, statement, behind),
         Err(end) => Err(at_line(end, number)),
     }

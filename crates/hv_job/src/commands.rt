@@ -12,8 +12,8 @@ use crate::images::at_line;
 use crate::job::DebugLine;
 use hv_lex::first_line;
 use hv_line::{
-    DebugCommand, JOB_BREAKS, JOB_COMMANDS, JobKind, JobLineEnd, has_allowed_bytes, has_words,
-    join_words, read_command,
+    DebugCommand, JOB_BREAKS, JOB_COMMANDS, JobKind, JobLineEnd, JobVersion, has_allowed_bytes,
+    has_words, join_words, read_command,
 };
 use hv_list::Items;
 use std::alloc::{AllocError, Global};
@@ -85,8 +85,14 @@ impl Commands {
 
     // Appends the command of a line, if it has words.
     #[tactic(auto, unfolding(crate::specs::Commands::line_commands))]
-    fn add(&mut self, alloc: Global, number: u32, line: &[u8]) -> Result<(), JobLineEnd>
-        ensures { Makes result (line_commands self.old number line.now) self.new }
+    fn add(
+        &mut self,
+        alloc: Global,
+        version: JobVersion,
+        number: u32,
+        line: &[u8],
+    ) -> Result<(), JobLineEnd>
+        ensures { Makes result (line_commands version self.old number line.now) self.new }
     {
         if !has_allowed_bytes(line) {
             return Err(JobLineEnd::Fault(JobKind::Byte));
@@ -94,7 +100,7 @@ impl Commands {
         if !has_words(line) {
             return Ok(());
         }
-        let what = match read_command(line) {
+        let what = match read_command(version, line) {
             Ok(what) => what,
             Err(kind) => return Err(JobLineEnd::Fault(kind)),
         };
@@ -116,18 +122,19 @@ impl Commands {
 /// The commands of a text, which is what stands behind the directives of a job; its first line has the number `first`.
 pub(crate) fn read_commands(
     alloc: Global,
+    version: JobVersion,
     text: &[u8],
     first: u32,
 ) -> Result<Items<DebugLine>, JobEnd>
     requires { first + length text.now < 2 ^ 32 }
-    ensures { GivesCommands result (commands_from [] first (lines_of text.now)) }
+    ensures { GivesCommands result (commands_from version [] first (lines_of text.now)) }
 {
     let mut commands = Commands::new(alloc);
     let mut rest = text;
     let mut number = first;
     while !rest.is_empty() {
         let (line, behind) = first_line(rest);
-        if let Err(end) = commands.add(alloc, number, line) {
+        if let Err(end) = commands.add(alloc, version, number, line) {
             return Err(at_line(end, number));
         }
         number += 1;

@@ -11,7 +11,7 @@ use crate::job::{DebugLine, Job, Placed};
 use crate::limited::{Amounts, taken_by};
 use hv_asm::{AsmEnd, assemble};
 use hv_irq::{Event, PushEnd, Recording};
-use hv_line::{Directive, JobKind, JobLineEnd, Name};
+use hv_line::{Directive, JobKind, JobLineEnd, JobVersion, Name};
 use hv_list::Items;
 use hv_samples::{Sample, sample};
 use std::alloc::{AllocError, Global};
@@ -92,10 +92,11 @@ impl Directives {
     }
 }
 
-/// What the lines of a text have so far: the pages of the storage, the number of harts where a line gave it, the
-/// directives, and the schedule.
+/// What the lines of a text have so far: which form it has, the pages of the storage, the number of harts where a line
+/// gave it, the directives, and the schedule.
 #[derive(Drop)]
 pub(crate) struct Draft {
+    pub version: JobVersion,
     pub pages: u32,
     pub harts: Option<u32>,
     pub lines: Directives,
@@ -103,11 +104,12 @@ pub(crate) struct Draft {
 }
 
 impl Draft {
-    /// Nothing but a storage.
-    pub fn new(alloc: Global, pages: u32) -> Draft
-        ensures { result ≡ draft_of pages }
+    /// Nothing but the form of a text and its storage.
+    pub fn new(alloc: Global, version: JobVersion, pages: u32) -> Draft
+        ensures { result ≡ draft_of version pages }
     {
         Draft {
+            version,
             pages,
             harts: None,
             lines: Directives::new(alloc),

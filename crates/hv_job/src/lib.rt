@@ -29,7 +29,7 @@ pub fn parse_job(alloc: Global, bytes: &[u8]) -> Result<Job, JobEnd>
     ensures job { GivesJob result (job_of bytes.now) }
     ensures limits { IfOk result IsJob }
 {
-    let header = read_header(bytes)?;
+    let (version, header) = read_header(bytes)?;
     let (pages, storage) = read_storage(header.text, header.number)?;
-    read_body(alloc, pages, storage.text, storage.number)
+    read_body(alloc, version, pages, storage.text, storage.number)
 }

@@ -5,3 +5,4 @@ pub mod Ranging
 pub mod Reading
 pub mod Shapes
 pub mod Spacing
+pub mod Versions

@@ -6,11 +6,11 @@ use Rattle.std.proofs.lemmas.Bool.{leb-true, ltb-true, eqb-true}
 use Rattle.hv_lex.specs.Numbers.{fitting, number_after, number_in, number_of, spelled_from}
 use Rattle.hv_samples.specs.declared.choice.Sample.{Sample}
 use Rattle.hv_samples.specs.declared.choice.Sample.TheVariants as sample
-use Rattle.hv_line.specs.Statements.{access, address, any_sample, statement_of, between, statement_with, dump_directive_of, fixed, hart, hart_directive_of, harts_directive_of, image_directive_of, inner, later_page, lines_directive_of, machine_directive_of, map_directive_of, mask, named, number, numbers, or_no_number, page, pages, sample_directive_of, start_directive_of, storage_line_of, storage_pages, storage_with, tower_directive_of, turn_directive_of, watch_directive_of, word_directive_of, word_with}
+use Rattle.hv_line.specs.Statements.{access, address, any_sample, statement_of, between, statement_with, dump_directive_of, fixed, hart, hart_directive_of, harts_directive_of, image_directive_of, inner, later_page, lines_directive_of, machine_directive_of, map_directive_of, mask, named, number, numbers, or_no_number, page, pages, sample_directive_of, start_directive_of, storage_line_of, storage_pages, storage_with, tower_directive_of, turn_directive_of, upgrade_directive_of, upgrade_in, watch_directive_of, word_directive_of, word_with}
 use Rattle.hv_irq.specs.declared.Event.TheVariants as event
 use Rattle.hv_limits.specs.Limits.{pages_limit, steps_limit}
 use Rattle.hv_line.specs.Commands.{step_command_of, break_command_of, regs_command_of, mem_command_of, path_command_of, map_command_of, faults_command_of, command_of, command_with}
-use Rattle.hv_line.specs.JobLimits.{job_depth, job_harts, job_values}
+use Rattle.hv_line.specs.JobLimits.{depth_in, harts_in, job_values}
 use Rattle.hv_line.specs.Ranges.{IsCommand, IsSize, IsStatement}
 use Rattle.hv_line.specs.declared.types.Statement.{Statement}
 use Rattle.hv_line.specs.declared.types.DebugCommand.{DebugCommand}
@@ -19,6 +19,9 @@ use Rattle.hv_line.specs.declared.types.Directive.TheVariants as directive
 use Rattle.hv_line.specs.declared.types.Statement.TheVariants as states
 use Rattle.hv_line.specs.declared.kinds.JobKind.{JobKind}
 use Rattle.hv_line.specs.declared.kinds.JobKind.TheVariants as fault
+use Rattle.hv_line.specs.declared.version.JobVersion.{JobVersion}
+use Rattle.hv_line.specs.declared.version.JobVersion.TheVariants.{One, Two}
+use Rattle.hv_line.proofs.Versions.{depth_within, harts_within}
 use Rattle.hv_lex.specs.Refusing.{◌>>=◌}
 
 -- what passed a test, and then the next one
@@ -113,22 +116,24 @@ inner_ok word which is =
       ]
     ] is
 
-harts_ranged : (words : List (List ℕ)) (said : Statement) → harts_directive_of words ≡ Ok said → IsStatement said
+harts_ranged : (version : JobVersion) (words : List (List ℕ)) (said : Statement) → harts_directive_of version words ≡ Ok said → IsStatement said
 unfolding harts_directive_of
-harts_ranged (n ∷ []) said is =
-    let s0 = then_ok (between 1 job_harts n) _ said is in
+harts_ranged version (n ∷ []) said is =
+    let s0 = then_ok (between 1 (harts_in version) n) _ said is in
     let e : states.Harts s0.0 ≡ said = ok_is _ said s0.2 in
-    subst IsStatement e (between_ok 1 job_harts n s0.0 s0.1)
-harts_ranged _ said is = cc
+    let b = between_ok 1 (harts_in version) n s0.0 s0.1 in
+    let w = harts_within version in
+    subst IsStatement e (b.0, omega arith)
+harts_ranged version _ said is = cc
 
-hart_ranged : (words : List (List ℕ)) (said : Statement) → hart_directive_of words ≡ Ok said → IsStatement said
+hart_ranged : (version : JobVersion) (words : List (List ℕ)) (said : Statement) → hart_directive_of version words ≡ Ok said → IsStatement said
 unfolding hart_directive_of
-hart_ranged (h ∷ a ∷ []) said is =
-    let s0 = then_ok (hart h) _ said is in
+hart_ranged version (h ∷ a ∷ []) said is =
+    let s0 = then_ok (hart version h) _ said is in
     let s1 = then_ok (address a) _ said s0.2 in
     let e : states.Directive (directive.Hart s0.0 s1.0) ≡ said = ok_is _ said s1.2 in
-    subst IsStatement e (((let b = between_ok 0 (job_harts - 1) h s0.0 s0.1 in omega arith), (address_ok a s1.0 s1.1).0), refl)
-hart_ranged _ said is = cc
+    subst IsStatement e (((let b = between_ok 0 (harts_in version - 1) h s0.0 s0.1 in let w = harts_within version in omega arith), (address_ok a s1.0 s1.1).0), refl)
+hart_ranged version _ said is = cc
 
 machine_ranged : (words : List (List ℕ)) (said : Statement) → machine_directive_of words ≡ Ok said → IsStatement said
 unfolding machine_directive_of
@@ -148,22 +153,22 @@ machine_ranged (name ∷ w_in ∷ parent ∷ w_block ∷ b ∷ w_pages ∷ n ∷
     subst IsStatement e (((let b = between_ok 1 (2 ^ 20 - 1) b s4.0 s4.1 in omega arith), (let b = between_ok 1 (2 ^ 20 - 1) b s4.0 s4.1 in omega arith), between_ok 1 pages_limit n s6.0 s6.1, (let b = between_ok 0 (2 ^ 20 - 1) t s8.0 s8.1 in omega arith), (let b = between_ok 0 (2 ^ 20 - 1) p s10.0 s10.1 in omega arith)), refl)
 machine_ranged _ said is = cc
 
-map_ranged : (words : List (List ℕ)) (said : Statement) → map_directive_of words ≡ Ok said → IsStatement said
+map_ranged : (version : JobVersion) (words : List (List ℕ)) (said : Statement) → map_directive_of version words ≡ Ok said → IsStatement said
 unfolding map_directive_of
-map_ranged (name ∷ i ∷ w_none ∷ []) said is =
+map_ranged version (name ∷ i ∷ w_none ∷ []) said is =
     let s0 = then_ok (named name) _ said is in
     let s1 = then_ok (page i) _ said s0.2 in
     let s2 = then_ok (fixed (codes "none") w_none) _ said s1.2 in
     let e : states.Directive (directive.Map s0.0 s1.0 0) ≡ said = ok_is _ said s2.2 in
     subst IsStatement e (((let b = between_ok 0 (2 ^ 20 - 1) i s1.0 s1.1 in omega arith)), refl)
-map_ranged (name ∷ i ∷ bits ∷ p ∷ []) said is =
+map_ranged version (name ∷ i ∷ bits ∷ p ∷ []) said is =
     let s0 = then_ok (named name) _ said is in
     let s1 = then_ok (page i) _ said s0.2 in
-    let s2 = then_ok (access bits) _ said s1.2 in
+    let s2 = then_ok (access version bits) _ said s1.2 in
     let s3 = then_ok (page p) _ said s2.2 in
     let e : states.Directive (directive.Map s0.0 s1.0 (s3.0 * 4096 + s2.0)) ≡ said = ok_is _ said s3.2 in
     subst IsStatement e (((let b = between_ok 0 (2 ^ 20 - 1) i s1.0 s1.1 in omega arith)), refl)
-map_ranged _ said is = cc
+map_ranged version _ said is = cc
 
 start_ranged : (words : List (List ℕ)) (said : Statement) → start_directive_of words ≡ Ok said → IsStatement said
 unfolding start_directive_of
@@ -212,49 +217,49 @@ word_ranged (name ∷ a ∷ values) said is =
     subst IsStatement e (((address_ok a s1.0 s1.1).0, omega arith, omega arith), refl)
 word_ranged _ said is = cc
 
-tower_ranged : (words : List (List ℕ)) (said : Statement) → tower_directive_of words ≡ Ok said → IsStatement said
+tower_ranged : (version : JobVersion) (words : List (List ℕ)) (said : Statement) → tower_directive_of version words ≡ Ok said → IsStatement said
 unfolding tower_directive_of
-tower_ranged (d ∷ w_pages ∷ n ∷ []) said is =
-    let s0 = then_ok (between 0 job_depth d) _ said is in
+tower_ranged version (d ∷ w_pages ∷ n ∷ []) said is =
+    let s0 = then_ok (between 0 (depth_in version) d) _ said is in
     let s1 = then_ok (fixed (codes "pages") w_pages) _ said s0.2 in
     let s2 = then_ok (pages n) _ said s1.2 in
     let e : states.Directive (directive.Tower s0.0 s2.0 sample.Pass) ≡ said = ok_is _ said s2.2 in
-    subst IsStatement e (((between_ok 0 job_depth d s0.0 s0.1).1, between_ok 1 pages_limit n s2.0 s2.1, inl refl), refl)
-tower_ranged (d ∷ w_pages ∷ n ∷ which ∷ []) said is =
-    let s0 = then_ok (between 0 job_depth d) _ said is in
+    subst IsStatement e (((let b = between_ok 0 (depth_in version) d s0.0 s0.1 in let w = depth_within version in omega arith), between_ok 1 pages_limit n s2.0 s2.1, inl refl), refl)
+tower_ranged version (d ∷ w_pages ∷ n ∷ which ∷ []) said is =
+    let s0 = then_ok (between 0 (depth_in version) d) _ said is in
     let s1 = then_ok (fixed (codes "pages") w_pages) _ said s0.2 in
     let s2 = then_ok (pages n) _ said s1.2 in
     let s3 = then_ok (inner which) _ said s2.2 in
     let e : states.Directive (directive.Tower s0.0 s2.0 s3.0) ≡ said = ok_is _ said s3.2 in
-    subst IsStatement e (((between_ok 0 job_depth d s0.0 s0.1).1, between_ok 1 pages_limit n s2.0 s2.1, inner_ok which s3.0 s3.1), refl)
-tower_ranged _ said is = cc
+    subst IsStatement e (((let b = between_ok 0 (depth_in version) d s0.0 s0.1 in let w = depth_within version in omega arith), between_ok 1 pages_limit n s2.0 s2.1, inner_ok which s3.0 s3.1), refl)
+tower_ranged version _ said is = cc
 
-turn_ranged : (words : List (List ℕ)) (said : Statement) → turn_directive_of words ≡ Ok said → IsStatement said
+turn_ranged : (version : JobVersion) (words : List (List ℕ)) (said : Statement) → turn_directive_of version words ≡ Ok said → IsStatement said
 unfolding turn_directive_of
-turn_ranged (h ∷ n ∷ []) said is =
-    let s0 = then_ok (hart h) _ said is in
+turn_ranged version (h ∷ n ∷ []) said is =
+    let s0 = then_ok (hart version h) _ said is in
     let s1 = then_ok (between 1 steps_limit n) _ said s0.2 in
     let e : states.Event (event.Turn s0.0 s1.0) ≡ said = ok_is _ said s1.2 in
-    subst IsStatement e (let b = between_ok 0 (job_harts - 1) h s0.0 s0.1 in omega arith)
-turn_ranged _ said is = cc
+    subst IsStatement e (let b = between_ok 0 (harts_in version - 1) h s0.0 s0.1 in let w = harts_within version in omega arith)
+turn_ranged version _ said is = cc
 
-lines_ranged : (words : List (List ℕ)) (said : Statement) → lines_directive_of words ≡ Ok said → IsStatement said
+lines_ranged : (version : JobVersion) (words : List (List ℕ)) (said : Statement) → lines_directive_of version words ≡ Ok said → IsStatement said
 unfolding lines_directive_of
-lines_ranged (h ∷ m ∷ []) said is =
-    let s0 = then_ok (hart h) _ said is in
+lines_ranged version (h ∷ m ∷ []) said is =
+    let s0 = then_ok (hart version h) _ said is in
     let s1 = then_ok (mask m) _ said s0.2 in
     let e : states.Event (event.Lines s0.0 s1.0) ≡ said = ok_is _ said s1.2 in
-    subst IsStatement e (let b = between_ok 0 (job_harts - 1) h s0.0 s0.1 in omega arith)
-lines_ranged _ said is = cc
+    subst IsStatement e (let b = between_ok 0 (harts_in version - 1) h s0.0 s0.1 in let w = harts_within version in omega arith)
+lines_ranged version _ said is = cc
 
-watch_ranged : (words : List (List ℕ)) (said : Statement) → watch_directive_of words ≡ Ok said → IsStatement said
+watch_ranged : (version : JobVersion) (words : List (List ℕ)) (said : Statement) → watch_directive_of version words ≡ Ok said → IsStatement said
 unfolding watch_directive_of
-watch_ranged (h ∷ name ∷ []) said is =
-    let s0 = then_ok (hart h) _ said is in
+watch_ranged version (h ∷ name ∷ []) said is =
+    let s0 = then_ok (hart version h) _ said is in
     let s1 = then_ok (named name) _ said s0.2 in
     let e : states.Directive (directive.Watch s0.0 s1.0) ≡ said = ok_is _ said s1.2 in
-    subst IsStatement e ((let b = between_ok 0 (job_harts - 1) h s0.0 s0.1 in omega arith), refl)
-watch_ranged _ said is = cc
+    subst IsStatement e ((let b = between_ok 0 (harts_in version - 1) h s0.0 s0.1 in let w = harts_within version in omega arith), refl)
+watch_ranged version _ said is = cc
 
 dump_ranged : (words : List (List ℕ)) (said : Statement) → dump_directive_of words ≡ Ok said → IsStatement said
 unfolding dump_directive_of
@@ -265,6 +270,20 @@ dump_ranged (name ∷ i ∷ []) said is =
     subst IsStatement e ((let b = between_ok 0 (2 ^ 20 - 1) i s1.0 s1.1 in omega arith), refl)
 dump_ranged _ said is = cc
 
+upgrade_ranged : (words : List (List ℕ)) (said : Statement) → upgrade_directive_of words ≡ Ok said → IsStatement said
+unfolding upgrade_directive_of
+upgrade_ranged (name ∷ d ∷ []) said is =
+    let s0 = then_ok (named name) _ said is in
+    let s1 = then_ok (page d) _ said s0.2 in
+    let e : states.Directive (directive.Upgrade s0.0 s1.0) ≡ said = ok_is _ said s1.2 in
+    subst IsStatement e ((let b = between_ok 0 (2 ^ 20 - 1) d s1.0 s1.1 in omega arith), refl)
+upgrade_ranged _ said is = cc
+
+upgrade_in_ranged : (version : JobVersion) (words : List (List ℕ)) (said : Statement) → upgrade_in version words ≡ Ok said → IsStatement said
+unfolding upgrade_in
+upgrade_in_ranged One words said is = cc
+upgrade_in_ranged Two words said is = upgrade_ranged words said is
+
 abbrev IsRanged : Result Statement JobKind → Type 0
 IsRanged r = (said : Statement) → r ≡ Ok said → IsStatement said
 
@@ -272,28 +291,29 @@ either : (b : Bool) (x y : Result Statement JobKind) → IsRanged x → IsRanged
 either true x y f g = f
 either false x y f g = g
 
-directive_ranged : (first : List ℕ) (words : List (List ℕ)) → IsRanged (statement_with first words)
+directive_ranged : (version : JobVersion) (first : List ℕ) (words : List (List ℕ)) → IsRanged (statement_with version first words)
 unfolding statement_with
-directive_ranged first words =
-    either (bytes_eq first (codes "harts")) (harts_directive_of words) _ (harts_ranged words) (
-    either (bytes_eq first (codes "hart")) (hart_directive_of words) _ (hart_ranged words) (
+directive_ranged version first words =
+    either (bytes_eq first (codes "harts")) (harts_directive_of version words) _ (harts_ranged version words) (
+    either (bytes_eq first (codes "hart")) (hart_directive_of version words) _ (hart_ranged version words) (
     either (bytes_eq first (codes "machine")) (machine_directive_of words) _ (machine_ranged words) (
-    either (bytes_eq first (codes "map")) (map_directive_of words) _ (map_ranged words) (
+    either (bytes_eq first (codes "map")) (map_directive_of version words) _ (map_ranged version words) (
     either (bytes_eq first (codes "start")) (start_directive_of words) _ (start_ranged words) (
     either (bytes_eq first (codes "image")) (image_directive_of words) _ (image_ranged words) (
     either (bytes_eq first (codes "sample")) (sample_directive_of words) _ (sample_ranged words) (
     either (bytes_eq first (codes "word")) (word_directive_of words) _ (word_ranged words) (
-    either (bytes_eq first (codes "tower")) (tower_directive_of words) _ (tower_ranged words) (
-    either (bytes_eq first (codes "turn")) (turn_directive_of words) _ (turn_ranged words) (
-    either (bytes_eq first (codes "lines")) (lines_directive_of words) _ (lines_ranged words) (
-    either (bytes_eq first (codes "watch")) (watch_directive_of words) _ (watch_ranged words) (
+    either (bytes_eq first (codes "tower")) (tower_directive_of version words) _ (tower_ranged version words) (
+    either (bytes_eq first (codes "turn")) (turn_directive_of version words) _ (turn_ranged version words) (
+    either (bytes_eq first (codes "lines")) (lines_directive_of version words) _ (lines_ranged version words) (
+    either (bytes_eq first (codes "watch")) (watch_directive_of version words) _ (watch_ranged version words) (
     either (bytes_eq first (codes "dump")) (dump_directive_of words) _ (dump_ranged words) (
-    refused_ranged fault.Directive)))))))))))))
+    either (bytes_eq first (codes "upgrade")) (upgrade_in version words) _ (upgrade_in_ranged version words) (
+    refused_ranged fault.Directive))))))))))))))
 
-pub statement_ranged : (words : List (List ℕ)) (said : Statement) → statement_of words ≡ Ok said → IsStatement said
+pub statement_ranged : (version : JobVersion) (words : List (List ℕ)) (said : Statement) → statement_of version words ≡ Ok said → IsStatement said
 unfolding statement_of
-statement_ranged [] said is = cc
-statement_ranged (first ∷ words) said is = directive_ranged first words said is
+statement_ranged version [] said is = cc
+statement_ranged version (first ∷ words) said is = directive_ranged version first words said is
 
 -- the storage
 pages_ranged : (words : List (List ℕ)) (pages : ℕ) → storage_pages words ≡ Ok pages → IsSize pages
@@ -351,13 +371,13 @@ mem_ranged (name ∷ a ∷ []) what is =
     subst IsCommand e ((address_ok a s1.0 s1.1).0)
 mem_ranged _ what is = cc
 
-path_ranged : (words : List (List ℕ)) (what : DebugCommand) → path_command_of words ≡ Ok what → IsCommand what
+path_ranged : (version : JobVersion) (words : List (List ℕ)) (what : DebugCommand) → path_command_of version words ≡ Ok what → IsCommand what
 unfolding path_command_of
-path_ranged (h ∷ []) what is =
-    let s0 = then_ok (hart h) _ what is in
+path_ranged version (h ∷ []) what is =
+    let s0 = then_ok (hart version h) _ what is in
     let e : command.Path s0.0 ≡ what = command_same _ what s0.2 in
-    subst IsCommand e (let b = between_ok 0 (job_harts - 1) h s0.0 s0.1 in omega arith)
-path_ranged _ what is = cc
+    subst IsCommand e (let b = between_ok 0 (harts_in version - 1) h s0.0 s0.1 in let w = harts_within version in omega arith)
+path_ranged version _ what is = cc
 
 map_command_ranged : (words : List (List ℕ)) (what : DebugCommand) → map_command_of words ≡ Ok what → IsCommand what
 unfolding map_command_of
@@ -380,19 +400,19 @@ either_command : (b : Bool) (x y : Result DebugCommand JobKind) → AreRanged x 
 either_command true x y f g = f
 either_command false x y f g = g
 
-with_ranged : (first : List ℕ) (words : List (List ℕ)) → AreRanged (command_with first words)
+with_ranged : (version : JobVersion) (first : List ℕ) (words : List (List ℕ)) → AreRanged (command_with version first words)
 unfolding command_with
-with_ranged first words =
+with_ranged version first words =
     either_command (bytes_eq first (codes "step")) (step_command_of words) _ (step_ranged words) (
     either_command (bytes_eq first (codes "break")) (break_command_of words) _ (break_ranged words) (
     either_command (bytes_eq first (codes "regs")) (regs_command_of words) _ (regs_ranged words) (
     either_command (bytes_eq first (codes "mem")) (mem_command_of words) _ (mem_ranged words) (
-    either_command (bytes_eq first (codes "path")) (path_command_of words) _ (path_ranged words) (
+    either_command (bytes_eq first (codes "path")) (path_command_of version words) _ (path_ranged version words) (
     either_command (bytes_eq first (codes "map")) (map_command_of words) _ (map_command_ranged words) (
     either_command (bytes_eq first (codes "faults")) (faults_command_of words) _ (faults_ranged words) (
     no_command fault.Directive)))))))
 
-pub command_ranged : (words : List (List ℕ)) (what : DebugCommand) → command_of words ≡ Ok what → IsCommand what
+pub command_ranged : (version : JobVersion) (words : List (List ℕ)) (what : DebugCommand) → command_of version words ≡ Ok what → IsCommand what
 unfolding command_of
-command_ranged [] what is = cc
-command_ranged (first ∷ words) what is = with_ranged first words what is
+command_ranged version [] what is = cc
+command_ranged version (first ∷ words) what is = with_ranged version first words what is

@@ -8,6 +8,7 @@ use Rattle.hv_line.specs.declared.kinds.JobKind.{JobKind}
 use Rattle.hv_line.specs.declared.kinds.JobKind.TheVariants as fault
 use Rattle.hv_line.specs.declared.types.DebugCommand.{DebugCommand}
 use Rattle.hv_line.specs.declared.types.DebugCommand.TheVariants as command
+use Rattle.hv_line.specs.declared.version.JobVersion.{JobVersion}
 use Rattle.hv_lex.specs.Refusing.{◌>>=◌}
 
 -- step N
@@ -41,11 +42,11 @@ mem_command_of (name ∷ a ∷ []) = do
 mem_command_of _ = Err fault.Words
 
 -- path H
-unfoldable pub path_command_of : List (List ℕ) → Result DebugCommand JobKind
-path_command_of (h ∷ []) = do
-  h ← hart h
+unfoldable pub path_command_of : JobVersion → List (List ℕ) → Result DebugCommand JobKind
+path_command_of version (h ∷ []) = do
+  h ← hart version h
   Ok (command.Path h)
-path_command_of _ = Err fault.Words
+path_command_of version _ = Err fault.Words
 
 -- map NAME I
 unfoldable pub map_command_of : List (List ℕ) → Result DebugCommand JobKind
@@ -61,21 +62,21 @@ faults_command_of [] = Ok command.Faults
 faults_command_of _ = Err fault.Words
 
 -- the command with this first word, with these words behind it
-unfoldable pub command_with : List ℕ → List (List ℕ) → Result DebugCommand JobKind
-command_with first words =
+unfoldable pub command_with : JobVersion → List ℕ → List (List ℕ) → Result DebugCommand JobKind
+command_with version first words =
     if bytes_eq first (codes "step") then step_command_of words
     else if bytes_eq first (codes "break") then break_command_of words
     else if bytes_eq first (codes "regs") then regs_command_of words
     else if bytes_eq first (codes "mem") then mem_command_of words
-    else if bytes_eq first (codes "path") then path_command_of words
+    else if bytes_eq first (codes "path") then path_command_of version words
     else if bytes_eq first (codes "map") then map_command_of words
     else if bytes_eq first (codes "faults") then faults_command_of words
     else Err fault.Directive
 
 -- the command that the words of a line are
-unfoldable pub command_of : List (List ℕ) → Result DebugCommand JobKind
-command_of [] = Err fault.Directive
-command_of (first ∷ words) = command_with first words
+unfoldable pub command_of : JobVersion → List (List ℕ) → Result DebugCommand JobKind
+command_of version [] = Err fault.Directive
+command_of version (first ∷ words) = command_with version first words
 
 -- words, each behind a blank, byte 32
 unfoldable pub behind_blanks : List (List ℕ) → List ℕ

@@ -1,9 +1,11 @@
 -- A line of a job as its words.
-use Rattle.std.specs.Prelude.{ℕ, Bool, false, not, ◌==◌, ◌&&◌, ◌||◌, nat_lt, if◌then◌else◌, List, [], ◌∷◌, length, codes}
+use Rattle.std.specs.Prelude.{ℕ, Bool, false, not, ◌==◌, ◌&&◌, ◌||◌, nat_lt, if◌then◌else◌, List, [], ◌∷◌, length, Option, Some, None, codes}
 use Rattle.std.specs.List.{list_all}
 use Rattle.std.specs.Str.{bytes_eq}
 use Rattle.hv_lex.specs.Lines.{onto}
 use Rattle.hv_lex.specs.Tokens.{is_plain}
+use Rattle.hv_line.specs.declared.version.JobVersion.{JobVersion}
+use Rattle.hv_line.specs.declared.version.JobVersion.TheVariants.{One, Two}
 
 -- the line has only printable bytes of ASCII and tabs
 unfoldable pub is_allowed : List ℕ → Bool
@@ -35,10 +37,13 @@ words_of (c ∷ cs) =
 abbrev pub has_words : List ℕ → Bool
 has_words line = nat_lt 0 (length (words_of line))
 
--- the words are exactly `job` and `1`
-unfoldable pub is_header : List (List ℕ) → Bool
-is_header (job ∷ version ∷ []) = bytes_eq job (codes "job") && bytes_eq version (codes "1")
-is_header _ = false
+-- the form that a first line with these words says: they are exactly `job` and `1`, or `job` and `2`
+unfoldable pub version_of : List (List ℕ) → Option JobVersion
+version_of (job ∷ number ∷ []) =
+    if bytes_eq job (codes "job") && bytes_eq number (codes "1") then Some One
+    else if bytes_eq job (codes "job") && bytes_eq number (codes "2") then Some Two
+    else None
+version_of _ = None
 
 -- the first word is this text
 unfoldable pub begins_with : List ℕ → List (List ℕ) → Bool

@@ -1,4 +1,5 @@
--- What holds of what a line says: its values are in their ranges.
+-- What holds of what a line says: its values are in their ranges. The ranges are those of a `job 2`, within which those
+-- of a `job 1` are.
 use Rattle.std.specs.Prelude.{◌≡◌, ◌⊎◌, ℕ, ◌+◌, ◌*◌, ◌%◌, ◌^◌, ◌<◌, ◌≤◌, Bool, true, false, length}
 use Rattle.hv_asm.specs.Limits.{image_limit}
 use Rattle.hv_asm.specs.declared.Image.{Image}
@@ -47,6 +48,7 @@ IsRanged (directive.Turn hart) = hart < job_harts
 IsRanged (directive.Lines hart) = hart < job_harts
 IsRanged (directive.Watch hart name) = hart < job_harts
 IsRanged (directive.Dump name page) = IsPage page
+IsRanged (directive.Upgrade name dir) = IsPage dir
 
 -- a directive that has an event in the schedule
 abbrev pub has_event : Directive → Bool

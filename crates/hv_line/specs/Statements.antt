@@ -8,13 +8,15 @@ use Rattle.hv_lex.specs.Numbers.{number_of}
 use Rattle.hv_limits.specs.Limits.{pages_limit, steps_limit}
 use Rattle.hv_samples.specs.declared.choice.Sample.{Sample}
 use Rattle.hv_samples.specs.declared.choice.Sample.TheVariants as sample
-use Rattle.hv_line.specs.JobLimits.{job_depth, job_harts, job_values}
+use Rattle.hv_line.specs.JobLimits.{depth_in, harts_in, job_values}
 use Rattle.hv_line.specs.Names.{name_of}
 use Rattle.hv_line.specs.declared.kinds.JobKind.{JobKind}
 use Rattle.hv_line.specs.declared.kinds.JobKind.TheVariants as fault
 use Rattle.hv_line.specs.declared.types.Directive.TheVariants as directive
 use Rattle.hv_line.specs.declared.types.Statement.{Statement}
 use Rattle.hv_line.specs.declared.types.Statement.TheVariants as states
+use Rattle.hv_line.specs.declared.version.JobVersion.{JobVersion}
+use Rattle.hv_line.specs.declared.version.JobVersion.TheVariants.{One, Two}
 use Rattle.hv_lex.specs.Refusing.{◌>>=◌}
 
 -- a word that is this text
@@ -58,8 +60,8 @@ mask word = do
   (if is_line_mask n then Ok n else Err fault.Range)
 
 -- the number of a hart
-abbrev pub hart : List ℕ → Result ℕ JobKind
-hart word = between 0 (job_harts - 1) word
+abbrev pub hart : JobVersion → List ℕ → Result ℕ JobKind
+hart version word = between 0 (harts_in version - 1) word
 
 -- a page of a machine
 abbrev pub page : List ℕ → Result ℕ JobKind
@@ -73,12 +75,20 @@ later_page word = between 1 (2 ^ 20 - 1) word
 abbrev pub pages : List ℕ → Result ℕ JobKind
 pages word = between 1 pages_limit word
 
+-- the access bits of an entry that can be fetched from, which only a `job 2` has
+unfoldable pub wide_access : JobVersion → List ℕ → Result ℕ JobKind
+wide_access One word = Err fault.Words
+wide_access Two word =
+    if bytes_eq word (codes "rx") then Ok 5
+    else if bytes_eq word (codes "rwx") then Ok 7
+    else Err fault.Words
+
 -- the access bits of an entry
-unfoldable pub access : List ℕ → Result ℕ JobKind
-access word =
+unfoldable pub access : JobVersion → List ℕ → Result ℕ JobKind
+access version word =
     if bytes_eq word (codes "ro") then Ok 1
     else if bytes_eq word (codes "rw") then Ok 3
-    else Err fault.Words
+    else wide_access version word
 
 -- one of the samples that run the machine at page 1 and nothing else
 unfoldable pub inner : List ℕ → Result Sample JobKind
@@ -117,19 +127,19 @@ storage_line_of [] = Err fault.Storage
 storage_line_of (first ∷ words) = storage_with first words
 
 -- harts N
-unfoldable pub harts_directive_of : List (List ℕ) → Result Statement JobKind
-harts_directive_of (n ∷ []) = do
-  n ← between 1 job_harts n
+unfoldable pub harts_directive_of : JobVersion → List (List ℕ) → Result Statement JobKind
+harts_directive_of version (n ∷ []) = do
+  n ← between 1 (harts_in version) n
   Ok (states.Harts n)
-harts_directive_of _ = Err fault.Words
+harts_directive_of version _ = Err fault.Words
 
 -- hart H A
-unfoldable pub hart_directive_of : List (List ℕ) → Result Statement JobKind
-hart_directive_of (h ∷ a ∷ []) = do
-  h ← hart h
+unfoldable pub hart_directive_of : JobVersion → List (List ℕ) → Result Statement JobKind
+hart_directive_of version (h ∷ a ∷ []) = do
+  h ← hart version h
   a ← address a
   Ok (states.Directive (directive.Hart h a))
-hart_directive_of _ = Err fault.Words
+hart_directive_of version _ = Err fault.Words
 
 -- machine NAME in PARENT block B pages N table T at P
 unfoldable pub machine_directive_of : List (List ℕ) → Result Statement JobKind
@@ -149,20 +159,20 @@ machine_directive_of
       Ok (states.Directive (directive.Machine name parent b n t p))
 machine_directive_of _ = Err fault.Words
 
--- map NAME I none, map NAME I ro P, map NAME I rw P
-unfoldable pub map_directive_of : List (List ℕ) → Result Statement JobKind
-map_directive_of (name ∷ i ∷ word_none ∷ []) = do
+-- map NAME I none, map NAME I ro P, map NAME I rw P, and in a `job 2` map NAME I rx P, map NAME I rwx P
+unfoldable pub map_directive_of : JobVersion → List (List ℕ) → Result Statement JobKind
+map_directive_of version (name ∷ i ∷ word_none ∷ []) = do
   name ← named name
   i ← page i
   _ ← fixed (codes "none") word_none
   Ok (states.Directive (directive.Map name i 0))
-map_directive_of (name ∷ i ∷ bits ∷ p ∷ []) = do
+map_directive_of version (name ∷ i ∷ bits ∷ p ∷ []) = do
   name ← named name
   i ← page i
-  bits ← access bits
+  bits ← access version bits
   p ← page p
   Ok (states.Directive (directive.Map name i (p * 4096 + bits)))
-map_directive_of _ = Err fault.Words
+map_directive_of version _ = Err fault.Words
 
 -- start NAME A
 unfoldable pub start_directive_of : List (List ℕ) → Result Statement JobKind
@@ -204,43 +214,43 @@ word_directive_of (name ∷ a ∷ values) =
 word_directive_of _ = Err fault.Words
 
 -- tower D pages N, with the sample pass, and tower D pages N WHICH
-unfoldable pub tower_directive_of : List (List ℕ) → Result Statement JobKind
-tower_directive_of (d ∷ word_pages ∷ n ∷ []) = do
-  d ← between 0 job_depth d
+unfoldable pub tower_directive_of : JobVersion → List (List ℕ) → Result Statement JobKind
+tower_directive_of version (d ∷ word_pages ∷ n ∷ []) = do
+  d ← between 0 (depth_in version) d
   _ ← fixed (codes "pages") word_pages
   n ← pages n
   Ok (states.Directive (directive.Tower d n sample.Pass))
-tower_directive_of (d ∷ word_pages ∷ n ∷ which ∷ []) = do
-  d ← between 0 job_depth d
+tower_directive_of version (d ∷ word_pages ∷ n ∷ which ∷ []) = do
+  d ← between 0 (depth_in version) d
   _ ← fixed (codes "pages") word_pages
   n ← pages n
   which ← inner which
   Ok (states.Directive (directive.Tower d n which))
-tower_directive_of _ = Err fault.Words
+tower_directive_of version _ = Err fault.Words
 
 -- turn H N
-unfoldable pub turn_directive_of : List (List ℕ) → Result Statement JobKind
-turn_directive_of (h ∷ n ∷ []) = do
-  h ← hart h
+unfoldable pub turn_directive_of : JobVersion → List (List ℕ) → Result Statement JobKind
+turn_directive_of version (h ∷ n ∷ []) = do
+  h ← hart version h
   n ← between 1 steps_limit n
   Ok (states.Event (event.Turn h n))
-turn_directive_of _ = Err fault.Words
+turn_directive_of version _ = Err fault.Words
 
 -- lines H M
-unfoldable pub lines_directive_of : List (List ℕ) → Result Statement JobKind
-lines_directive_of (h ∷ m ∷ []) = do
-  h ← hart h
+unfoldable pub lines_directive_of : JobVersion → List (List ℕ) → Result Statement JobKind
+lines_directive_of version (h ∷ m ∷ []) = do
+  h ← hart version h
   m ← mask m
   Ok (states.Event (event.Lines h m))
-lines_directive_of _ = Err fault.Words
+lines_directive_of version _ = Err fault.Words
 
 -- watch H NAME
-unfoldable pub watch_directive_of : List (List ℕ) → Result Statement JobKind
-watch_directive_of (h ∷ name ∷ []) = do
-  h ← hart h
+unfoldable pub watch_directive_of : JobVersion → List (List ℕ) → Result Statement JobKind
+watch_directive_of version (h ∷ name ∷ []) = do
+  h ← hart version h
   name ← named name
   Ok (states.Directive (directive.Watch h name))
-watch_directive_of _ = Err fault.Words
+watch_directive_of version _ = Err fault.Words
 
 -- dump NAME I
 unfoldable pub dump_directive_of : List (List ℕ) → Result Statement JobKind
@@ -250,25 +260,39 @@ dump_directive_of (name ∷ i ∷ []) = do
   Ok (states.Directive (directive.Dump name i))
 dump_directive_of _ = Err fault.Words
 
+-- upgrade NAME D
+unfoldable pub upgrade_directive_of : List (List ℕ) → Result Statement JobKind
+upgrade_directive_of (name ∷ d ∷ []) = do
+  name ← named name
+  d ← page d
+  Ok (states.Directive (directive.Upgrade name d))
+upgrade_directive_of _ = Err fault.Words
+
+-- a line `upgrade`, which only a `job 2` has
+unfoldable pub upgrade_in : JobVersion → List (List ℕ) → Result Statement JobKind
+upgrade_in One words = Err fault.Directive
+upgrade_in Two words = upgrade_directive_of words
+
 -- what the line with this first word says, with these words behind it
-unfoldable pub statement_with : List ℕ → List (List ℕ) → Result Statement JobKind
-statement_with first words =
-    if bytes_eq first (codes "harts") then harts_directive_of words
-    else if bytes_eq first (codes "hart") then hart_directive_of words
+unfoldable pub statement_with : JobVersion → List ℕ → List (List ℕ) → Result Statement JobKind
+statement_with version first words =
+    if bytes_eq first (codes "harts") then harts_directive_of version words
+    else if bytes_eq first (codes "hart") then hart_directive_of version words
     else if bytes_eq first (codes "machine") then machine_directive_of words
-    else if bytes_eq first (codes "map") then map_directive_of words
+    else if bytes_eq first (codes "map") then map_directive_of version words
     else if bytes_eq first (codes "start") then start_directive_of words
     else if bytes_eq first (codes "image") then image_directive_of words
     else if bytes_eq first (codes "sample") then sample_directive_of words
     else if bytes_eq first (codes "word") then word_directive_of words
-    else if bytes_eq first (codes "tower") then tower_directive_of words
-    else if bytes_eq first (codes "turn") then turn_directive_of words
-    else if bytes_eq first (codes "lines") then lines_directive_of words
-    else if bytes_eq first (codes "watch") then watch_directive_of words
+    else if bytes_eq first (codes "tower") then tower_directive_of version words
+    else if bytes_eq first (codes "turn") then turn_directive_of version words
+    else if bytes_eq first (codes "lines") then lines_directive_of version words
+    else if bytes_eq first (codes "watch") then watch_directive_of version words
     else if bytes_eq first (codes "dump") then dump_directive_of words
+    else if bytes_eq first (codes "upgrade") then upgrade_in version words
     else Err fault.Directive
 
 -- what a line with these words says among the directives
-unfoldable pub statement_of : List (List ℕ) → Result Statement JobKind
-statement_of [] = Err fault.Directive
-statement_of (first ∷ words) = statement_with first words
+unfoldable pub statement_of : JobVersion → List (List ℕ) → Result Statement JobKind
+statement_of version [] = Err fault.Directive
+statement_of version (first ∷ words) = statement_with version first words

@@ -8,6 +8,7 @@ ghost use Rattle.hv_line.specs.Texts.{texts};
 use crate::kinds::JobKind;
 use crate::lines::{first_word, read_words};
 use crate::types::DebugCommand;
+use crate::version::JobVersion;
 use crate::words::{self, is};
 use hv_limits::STEPS;
 use hv_list::Items;
@@ -15,26 +16,26 @@ use std::alloc::{AllocError, Global};
 
 /// The command that a line is.
 #[tactic(auto, unfolding(crate::specs::Commands::command_of))]
-pub fn read_command(line: &[u8]) -> Result<DebugCommand, JobKind>
-    ensures { result ≡ command_of (words_of line.now) }
+pub fn read_command(version: JobVersion, line: &[u8]) -> Result<DebugCommand, JobKind>
+    ensures { result ≡ command_of version (words_of line.now) }
 {
     match read_words(line).as_slice() {
-        [first, behind @ ..] => command(first, behind),
+        [first, behind @ ..] => command(version, first, behind),
         [] => Err(JobKind::Directive),
     }
 }
 
 // The command with this first word.
 #[tactic(auto, unfolding(crate::specs::Commands::command_with))]
-fn command(first: &[u8], behind: &[&[u8]]) -> Result<DebugCommand, JobKind>
-    ensures { result ≡ command_with first.now (texts behind.now) }
+fn command(version: JobVersion, first: &[u8], behind: &[&[u8]]) -> Result<DebugCommand, JobKind>
+    ensures { result ≡ command_with version first.now (texts behind.now) }
 {
     match first {
         _ if is(first, b"step") => step_command(behind),
         _ if is(first, b"break") => break_command(behind),
         _ if is(first, b"regs") => regs_command(behind),
         _ if is(first, b"mem") => mem_command(behind),
-        _ if is(first, b"path") => path_command(behind),
+        _ if is(first, b"path") => path_command(version, behind),
         _ if is(first, b"map") => map_command(behind),
         _ if is(first, b"faults") => faults_command(behind),
         _ => Err(JobKind::Directive),
@@ -88,13 +89,13 @@ fn mem_command(behind: &[&[u8]]) -> Result<DebugCommand, JobKind>
 }
 
 #[tactic(auto, unfolding(crate::specs::Commands::path_command_of))]
-fn path_command(behind: &[&[u8]]) -> Result<DebugCommand, JobKind>
-    ensures { result ≡ path_command_of (texts behind.now) }
+fn path_command(version: JobVersion, behind: &[&[u8]]) -> Result<DebugCommand, JobKind>
+    ensures { result ≡ path_command_of version (texts behind.now) }
 {
     let [h] = behind else {
         return Err(JobKind::Words);
     };
-    let hart = words::hart(h)?;
+    let hart = words::hart(version, h)?;
     Ok(DebugCommand::Path { hart })
 }
 

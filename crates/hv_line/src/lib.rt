@@ -8,6 +8,7 @@ mod limits;
 mod lines;
 mod name;
 mod types;
+mod version;
 mod words;
 
 pub use commands::{join_words, read_command};
@@ -17,6 +18,7 @@ pub use limits::{
     JOB_BREAKS, JOB_COMMANDS, JOB_DEPTH, JOB_DUMPS, JOB_HARTS, JOB_IMAGE_BYTES, JOB_MACHINES,
     JOB_VALUES, JOB_WATCHES, job_limits_are_kept,
 };
-pub use lines::{begins_with, has_allowed_bytes, has_words, is_header, is_only};
+pub use lines::{begins_with, has_allowed_bytes, has_words, is_only, read_version};
 pub use name::{LETTERS, Name};
 pub use types::{DebugCommand, Directive, Statement};
+pub use version::JobVersion;

@@ -1,4 +1,4 @@
-//! What a text that begins with `job 1` can ask for, whatever machine it is read for.
+//! What a text can ask for, whatever machine it is read for.
 
 ghost use Rattle.std.specs.Prelude.{◌≡◌, ◌≤◌};
 ghost use Rattle.hv_limits.specs.Limits.{depth_limit, harts_limit};
@@ -7,11 +7,11 @@ ghost use Rattle.hv_line.specs.Names.{name_limit};
 
 use crate::name::LETTERS;
 
-/// How many harts a line `harts` can ask for.
-pub const JOB_HARTS: u32 = 4;
+/// The most harts that a text can ask for.
+pub const JOB_HARTS: u32 = 8;
 
-/// How many machines inside one another a line `tower` can ask for.
-pub const JOB_DEPTH: u32 = 8;
+/// The most machines inside one another that a text can ask for.
+pub const JOB_DEPTH: u32 = 12;
 
 /// How many values a line `word` can have.
 pub const JOB_VALUES: usize = 8;

@@ -1,9 +1,10 @@
 //! The words of a line.
 
 ghost use Rattle.std.specs.Prelude.{◌≡◌, ◌≤◌, ◌<◌, ℕ, ◌∷◌, [], true, false, length, nat_lt, slice_index, take, MatchOption};
-ghost use Rattle.hv_line.specs.Lines.{begins_with as begins_with_of, is_allowed, is_blank as is_blank_of, is_header as is_header_of, is_only as is_only_of, is_word_byte as is_word_byte_of, words_of};
+ghost use Rattle.hv_line.specs.Lines.{begins_with as begins_with_of, is_allowed, is_blank as is_blank_of, is_only as is_only_of, is_word_byte as is_word_byte_of, version_of, words_of};
 ghost use Rattle.hv_line.specs.Texts.{texts};
 
+use crate::version::JobVersion;
 use crate::words::is;
 
 /// Whether a line has no other bytes than the printable ones of ASCII and tabs.
@@ -116,18 +117,26 @@ pub fn has_words(line: &[u8]) -> bool
     first_word(line).is_some()
 }
 
-/// Whether the words of a line are exactly `job` and `1`.
-#[tactic(auto, unfolding(crate::specs::Lines::is_header))]
-pub fn is_header(line: &[u8]) -> bool
-    ensures { result ≡ is_header_of (words_of line.now) }
+/// The form that a first line says, where its words are exactly `job` and `1`, or `job` and `2`.
+#[tactic(auto, unfolding(crate::specs::Lines::version_of))]
+pub fn read_version(line: &[u8]) -> Option<JobVersion>
+    ensures { result ≡ version_of (words_of line.now) }
 {
     let Some((job, rest)) = first_word(line) else {
-        return false;
+        return None;
     };
-    let Some((version, rest)) = first_word(rest) else {
-        return false;
+    let Some((number, rest)) = first_word(rest) else {
+        return None;
     };
-    !has_words(rest) && is(job, b"job") && is(version, b"1")
+    if has_words(rest) {
+        None
+    } else if is(job, b"job") && is(number, b"1") {
+        Some(JobVersion::One)
+    } else if is(job, b"job") && is(number, b"2") {
+        Some(JobVersion::Two)
+    } else {
+        None
+    }
 }
 
 /// Whether the first word of a line is this text.

@@ -75,6 +75,11 @@ pub enum Directive {
         name: Name,
         page: u32,
     },
+    /// A machine whose map becomes one of two levels, with its directory on this page of its parent.
+    Upgrade {
+        name: Name,
+        dir: u32,
+    },
 }
 
 /// What a line among the directives says.

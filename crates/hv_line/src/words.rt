@@ -2,13 +2,14 @@
 
 ghost use Rattle.std.specs.Prelude.{◌≡◌, ◌^◌, ◌<◌, ◌≤◌, IfOk};
 ghost use Rattle.std.specs.Str.{bytes_eq};
-ghost use Rattle.hv_line.specs.Statements.{access as access_of, address as address_of, any_sample as any_sample_of, between as between_of, fixed as fixed_of, hart as hart_of, inner as inner_of, later_page as later_page_of, mask as mask_of, named as named_of, number as number_of, numbers as numbers_of, page as page_of, pages as pages_of};
+ghost use Rattle.hv_line.specs.Statements.{access as access_of, address as address_of, any_sample as any_sample_of, between as between_of, fixed as fixed_of, hart as hart_of, inner as inner_of, later_page as later_page_of, mask as mask_of, named as named_of, number as number_of, numbers as numbers_of, page as page_of, pages as pages_of, wide_access as wide_access_of};
 ghost use Rattle.hv_line.specs.Answers.{GivesLine};
+ghost use Rattle.hv_line.specs.JobLimits.{depth_in};
 ghost use Rattle.hv_line.specs.Texts.{texts};
 
 use crate::kinds::{JobKind, JobLineEnd};
-use crate::limits::JOB_HARTS;
 use crate::name::Name;
+use crate::version::JobVersion;
 use hv_lex::read_number;
 use hv_limits::{LINES, PAGES};
 use hv_list::Items;
@@ -100,10 +101,17 @@ pub(crate) fn mask(word: &[u8]) -> Result<u32, JobKind>
 }
 
 /// The number of a hart.
-pub(crate) fn hart(word: &[u8]) -> Result<u32, JobKind>
-    ensures { result ≡ hart_of word.now }
+pub(crate) fn hart(version: JobVersion, word: &[u8]) -> Result<u32, JobKind>
+    ensures { result ≡ hart_of version word.now }
 {
-    between(0, JOB_HARTS - 1, word)
+    between(0, version.harts() - 1, word)
+}
+
+/// How many machines inside one another a line `tower` asks for.
+pub(crate) fn depth(version: JobVersion, word: &[u8]) -> Result<u32, JobKind>
+    ensures { result ≡ between_of 0 (depth_in version) word.now }
+{
+    between(0, version.depth(), word)
 }
 
 /// A page of a machine.
@@ -128,18 +136,32 @@ pub(crate) fn pages(word: &[u8]) -> Result<u32, JobKind>
     between(1, PAGES, word)
 }
 
-/// The access bits of an entry: 1 for `ro`, 3 for `rw`.
+/// The access bits of an entry: 1 for `ro`, 3 for `rw`, and in a `job 2` also 5 for `rx`, 7 for `rwx`.
 #[tactic(auto, unfolding(crate::specs::Statements::access))]
-pub(crate) fn access(word: &[u8]) -> Result<u32, JobKind>
-    ensures value { result ≡ access_of word.now }
-    ensures small { IfOk result (λ bits. bits < 4) }
+pub(crate) fn access(version: JobVersion, word: &[u8]) -> Result<u32, JobKind>
+    ensures value { result ≡ access_of version word.now }
+    ensures small { IfOk result (λ bits. bits < 8) }
 {
     if is(word, b"ro") {
         Ok(1)
     } else if is(word, b"rw") {
         Ok(3)
     } else {
-        Err(JobKind::Words)
+        wide_access(version, word)
+    }
+}
+
+// The access bits of an entry that can be fetched from.
+#[tactic(auto, unfolding(crate::specs::Statements::wide_access))]
+fn wide_access(version: JobVersion, word: &[u8]) -> Result<u32, JobKind>
+    ensures value { result ≡ wide_access_of version word.now }
+    ensures small { IfOk result (λ bits. bits < 8) }
+{
+    match version {
+        JobVersion::One => Err(JobKind::Words),
+        JobVersion::Two if is(word, b"rx") => Ok(5),
+        JobVersion::Two if is(word, b"rwx") => Ok(7),
+        JobVersion::Two => Err(JobKind::Words),
     }
 }
 

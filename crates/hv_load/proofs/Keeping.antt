@@ -7,6 +7,9 @@ use Rattle.std.proofs.lemmas.Bool.{ltb-true, ltb-false, leb-true, true≢false}
 use Rattle.std.proofs.lemmas.List.Sums.{sum_by-cons}
 use Rattle.std.proofs.lemmas.List.{length-map, length-replicate}
 use Rattle.std.proofs.lemmas.List.Elements.{All-push, All-replicate, All-set}
+use Rattle.hv_apart.specs.Upgrade.{last_item, parent_map, upgrade_refusal, upgraded, upgraded_in}
+use Rattle.hv_apart.specs.declared.upgrading.UpgradeEnd.{UpgradeEnd}
+use Rattle.hv_apart.proofs.Rewriting.{length-rewritten}
 use Rattle.hv_asm.specs.declared.Image.{Image}
 use Rattle.hv_cpu.specs.Regs.{reset_regs}
 use Rattle.hv_job.specs.IsJob.{IsJob}
@@ -20,7 +23,7 @@ use Rattle.hv_map.specs.Chain.{map_along, map_of, pin_of, IsThere}
 use Rattle.hv_limits.specs.Limits.{depth_limit, pages_limit}
 use Rattle.hv_map.specs.Item.{Item}
 use Rattle.hv_store.specs.Zeros.{zeros}
-use Rattle.std.specs.Option.{option_map}
+use Rattle.std.specs.Option.{option_map, unwrap_or}
 use Rattle.hv_load.specs.declared.start.Start.{Start}
 use Rattle.hv_load.specs.Ready.{EachWatched, IsReady}
 use Rattle.hv_samples.specs.declared.choice.Sample.{Sample}
@@ -32,7 +35,8 @@ use Rattle.hv_load.specs.declared.parts.Mark.TheVariants as mark
 use Rattle.hv_load.specs.Building.{Building, Known, known, known_inside, named, nothing_built}
 use Rattle.hv_load.specs.Build.{GivesStart, build_of, built_from, can_watch, command_fault, done_of, end_of, finish_of, part_of, parts_of, start_of, top_of, towered_of, unless_fault, unless_refused, watch_asked, watch_fault, with_top}
 use Rattle.hv_line.specs.JobLimits.{job_machines}
-use Rattle.hv_load.specs.Directives.{dump_in, dump_of, event_of, hart_of, image_in, image_of, is_outside, is_shared, machine_of, made_in, mapped_in, mapped_of, pages_along, started_in, started_of, watch_in, watch_of, with_made, words_in, words_of}
+use Rattle.hv_load.specs.Directives.{directory_page, dump_in, dump_of, event_of, hart_of, image_in, image_of, is_outside, is_shared, machine_of, made_in, mapped_in, mapped_of, pages_along, started_in, started_of, upgraded_along, upgraded_of, upgraded_unless, watch_in, watch_of, with_directory, with_made, words_in, words_of}
+use Rattle.hv_load.specs.Kinds.{upgrade_kind}
 use Rattle.hv_load.specs.Making.{block_word, can_take, table_word, with_machine, with_page, with_tables}
 use Rattle.hv_load.specs.Pages.{block_page, each_from, free_page_of, marked, outer, page_at, page_of, place_by, reads_in, table_word_of, with_values}
 use Rattle.hv_load.specs.Tower.{level_name, tower_of}
@@ -154,6 +158,31 @@ mapped_keeps b n name page entry is =
         let at = bound (table_word_of b.storage k.path page) (λ place. Ok (record b { storage = set b.storage place entry })) n inner.1 in
         word_keeps b n at.0 entry at.2
 
+-- an upgrade changes no number of words
+pub length-upgraded : (S : List ℕ) (items : List Item) (dir : ℕ) → length (upgraded S items dir) ≡ length S
+length-upgraded S items dir = last (last_item items)
+  where
+    last : (o : Option Item) → length (unwrap_or (option_map (λ (x : Item). upgraded_in S (parent_map S items) x dir) o) S) ≡ length S
+    last None = refl
+    last (Some x) = length-rewritten S x dir _ _
+
+upgraded_keeps : (b n : Building) (name : List ℕ) (dir : ℕ) → upgraded_of b name dir ≡ Ok n → KeepsBuilding b n 0 0
+upgraded_keeps b n name dir is =
+    let found = bound (known_inside name b.names) (λ k. upgraded_along b k dir (pin_of b.storage k.path)) n is in
+    along found.0 (pin_of b.storage found.0.path) found.2
+  where
+    unless : (k : Known) (items : List Item) (o : Option UpgradeEnd) → upgraded_unless b k items dir o ≡ Ok n → KeepsBuilding b n 0 0
+    unless k items (Some end) is = absurd (failed (upgrade_kind end) n (Err (upgrade_kind end)) refl is)
+    unless k items None is =
+        let page = bound (directory_page b k dir) (λ g. Ok (with_directory b items dir g)) n is in
+        made b (with_directory b items dir page.0) n 0 0 _ (same b (with_directory b items dir page.0) (length-upgraded b.storage items dir) refl refl refl) refl page.2
+
+    along : (k : Known) (o : Option (List Item)) → upgraded_along b k dir o ≡ Ok n → KeepsBuilding b n 0 0
+    along k None is = absurd (failed kind.Absent n (Err kind.Absent) refl is)
+    along k (Some items) is =
+        let few = passed (nat_lt pages_limit (length (map_along b.storage items))) (upgraded_unless b k items dir (upgrade_refusal b.storage items dir)) kind.Absent n is in
+        unless k items (upgrade_refusal b.storage items dir) few.1
+
 started_keeps : (b n : Building) (name : List ℕ) (pc : ℕ) → started_of b name pc ≡ Ok n → KeepsBuilding b n 0 0
 started_keeps b n name pc is =
     let found = bound (known_inside name b.names) (λ k. started_in b k pc) n is in
@@ -228,6 +257,7 @@ part_keeps b n (directive.Machine name parent block pages table at) is = machine
 part_keeps b n (directive.Sample name image) is = image_keeps b n name image is
 part_keeps b n (directive.Hart hart pc) is = made b b n 0 0 _ (same b b refl refl refl refl) refl is
 part_keeps b n (directive.Map name page entry) is = made b b n 0 0 _ (same b b refl refl refl refl) refl is
+part_keeps b n (directive.Upgrade name dir) is = made b b n 0 0 _ (same b b refl refl refl refl) refl is
 part_keeps b n (directive.Start name pc) is = made b b n 0 0 _ (same b b refl refl refl refl) refl is
 part_keeps b n (directive.Image name image) is = made b b n 0 0 _ (same b b refl refl refl refl) refl is
 part_keeps b n (directive.Word name at values) is = made b b n 0 0 _ (same b b refl refl refl refl) refl is
@@ -259,6 +289,7 @@ pub done_keeps : (b n : Building) (line : ℕ) (what : Directive) → done_of b 
 done_keeps b n line (directive.Hart hart pc) is = hart_keeps b n hart pc is
 done_keeps b n line (directive.Machine name parent block pages table at) is = machine_keeps b n name parent block pages table at is
 done_keeps b n line (directive.Map name page entry) is = mapped_keeps b n name page entry is
+done_keeps b n line (directive.Upgrade name dir) is = upgraded_keeps b n name dir is
 done_keeps b n line (directive.Start name pc) is = started_keeps b n name pc is
 done_keeps b n line (directive.Image name image) is = image_keeps b n name image is
 done_keeps b n line (directive.Sample name image) is = image_keeps b n name image is

@@ -15,13 +15,17 @@ use Rattle.hv_store.specs.declared.access.Slot.{Slot}
 use Rattle.hv_load.specs.declared.ends.BuildKind.{BuildKind}
 use Rattle.hv_load.specs.Pages.{block_page, outer, table_word_of, word_in_parent, word_named, word_of_child}
 
+-- a chain has as many machines as its path has syllables
+pub chain_length : (S path : List ℕ) (chain : List Item) → pin_of S path ≡ Some chain → length chain ≡ length path
+unfolding pin_of
+chain_length S path chain is =
+    sym (length-map chain (λ (x : Item). x.syllable))
+    ∙ ap length ((machines_chained S (identity (page_count S)) 0 path chain is).0)
+
 -- the parent is at the level before
 level_before : (S path : List ℕ) (chain : List Item) → pin_of S (outer path) ≡ Some chain → length chain ≡ length path - 1
-unfolding pin_of
 level_before S path chain is =
-    sym (length-map chain (λ (x : Item). x.syllable))
-    ∙ ap length ((machines_chained S (identity (page_count S)) 0 (outer path) chain is).0)
-    ∙ length-take-le (length path - 1) path (omega arith)
+    chain_length S (outer path) chain is ∙ length-take-le (length path - 1) path (omega arith)
 
 pub table_word_found : (S path : List ℕ) (i : ℕ) (chain : List Item) (s g : ℕ) (b : Block) (r : Result ℕ BuildKind) → pin_of S (outer path) ≡ Some chain → s ≡ block_page path → Some (Child g b) ≡ found_on S (map_along S chain) s → r ≡ word_named (map_along S chain) i (table_of S (reading (map_along S chain)) (length chain) b.table b.version i) → r ≡ table_word_of S path i
 table_word_found S path i chain s g b r is page found given =

@@ -21,7 +21,7 @@ use Rattle.hv_load.specs.declared.start.Named.{Named}
 use Rattle.hv_load.specs.declared.start.Plan.{Plan}
 use Rattle.hv_load.specs.declared.start.Start.{Start}
 use Rattle.hv_load.specs.Building.{Building, Known, known, named, nothing_built}
-use Rattle.hv_load.specs.Directives.{dump_of, event_of, hart_of, image_of, machine_of, mapped_of, started_of, watch_of, words_of}
+use Rattle.hv_load.specs.Directives.{dump_of, event_of, hart_of, image_of, machine_of, mapped_of, started_of, upgraded_of, watch_of, words_of}
 use Rattle.hv_load.specs.Tower.{level_name, tower_of}
 use Rattle.hv_lex.specs.Refusing.{◌>>=◌, at_line}
 
@@ -55,6 +55,7 @@ abbrev pub done_of : Building → (line : ℕ) → Directive → Result Building
 done_of b line (directive.Hart hart pc) = hart_of b hart pc
 done_of b line (directive.Machine name parent block pages table at) = machine_of b name parent block pages table at
 done_of b line (directive.Map name page entry) = mapped_of b name page entry
+done_of b line (directive.Upgrade name dir) = upgraded_of b name dir
 done_of b line (directive.Start name pc) = started_of b name pc
 done_of b line (directive.Image name image) = image_of b name image
 done_of b line (directive.Sample name image) = image_of b name image

@@ -1,17 +1,21 @@
 -- What each directive does, or why it is refused, in the order of its tests.
-use Rattle.std.specs.Prelude.{ℕ, ◌+◌, ◌*◌, ◌/◌, Bool, false, ◌||◌, nat_lt, nat_le, if◌then◌else◌, List, [], ◌∷◌, ◌++◌, length, map, is_some, Option, Result, Ok, Err, slice_set}
+use Rattle.std.specs.Prelude.{ℕ, ◌+◌, ◌*◌, ◌/◌, Bool, false, ◌||◌, nat_lt, nat_le, if◌then◌else◌, List, [], ◌∷◌, ◌++◌, length, map, is_some, Option, Some, None, Result, Ok, Err, slice_set}
+use Rattle.hv_apart.specs.Upgrade.{upgrade_refusal, upgraded}
+use Rattle.hv_apart.specs.declared.upgrading.UpgradeEnd.{UpgradeEnd}
 use Rattle.hv_asm.specs.declared.Image.{Image}
 use Rattle.hv_cpu.specs.Regs.{reset_regs}
 use Rattle.hv_store.specs.declared.access.Slot.{Slot}
 use Rattle.hv_map.specs.Apart.{table_pages}
-use Rattle.hv_map.specs.Chain.{map_of}
-use Rattle.hv_limits.specs.Limits.{depth_limit}
+use Rattle.hv_map.specs.Chain.{map_along, map_of, pin_of}
+use Rattle.hv_map.specs.Item.{Item}
+use Rattle.hv_limits.specs.Limits.{depth_limit, pages_limit}
 use Rattle.hv_line.specs.JobLimits.{job_machines}
 use Rattle.hv_load.specs.declared.ends.BuildKind.{BuildKind}
 use Rattle.hv_load.specs.declared.ends.BuildKind.TheVariants as kind
 use Rattle.hv_load.specs.declared.parts.Mark.TheVariants as mark
 use Rattle.hv_load.specs.Building.{Building, Known, known, known_inside, named}
-use Rattle.hv_load.specs.Pages.{block_page, each_from, free_page_of, marked, outer, page_at, page_of, place_by, reads_in, table_word_of, with_values, writes_in}
+use Rattle.hv_load.specs.Kinds.{upgrade_kind}
+use Rattle.hv_load.specs.Pages.{block_page, each_from, free_page_of, if_free, marked, outer, page_at, page_of, place_by, reads_in, table_word_of, with_values, writes_in}
 use Rattle.hv_load.specs.Making.{can_take, with_machine}
 use Rattle.hv_lex.specs.Refusing.{◌>>=◌}
 
@@ -72,6 +76,31 @@ mapped_in b k page entry =
 -- the same of the machine of this name
 abbrev pub mapped_of : Building → List ℕ → (page entry : ℕ) → Result Building BuildKind
 mapped_of b name page entry = known_inside name b.names >>= λ k. mapped_in b k page entry
+
+-- the bare page in which the parent of a machine writes its page `dir`, where it is free
+abbrev pub directory_page : Building → Known → (dir : ℕ) → Result ℕ BuildKind
+directory_page b k dir = writes_in (map_of b.storage (outer k.path)) dir >>= if_free b.marks
+
+-- the machine at the end of the items gets a directory in this bare page
+abbrev pub with_directory : Building → List Item → (dir g : ℕ) → Building
+with_directory b items dir g =
+    record b { storage = upgraded b.storage items dir; marks = marked mark.Control (g ∷ []) b.marks }
+
+-- the same unless the upgrade is refused, or that bare page isn't free
+abbrev pub upgraded_unless : Building → Known → List Item → (dir : ℕ) → Option UpgradeEnd → Result Building BuildKind
+upgraded_unless b k items dir (Some end) = Err (upgrade_kind end)
+upgraded_unless b k items dir None = directory_page b k dir >>= λ g. Ok (with_directory b items dir g)
+
+-- the same of a machine that is there and has at most as many pages as a storage can have
+abbrev pub upgraded_along : Building → Known → (dir : ℕ) → Option (List Item) → Result Building BuildKind
+upgraded_along b k dir None = Err kind.Absent
+upgraded_along b k dir (Some items) =
+    if nat_lt pages_limit (length (map_along b.storage items)) then Err kind.Absent
+    else upgraded_unless b k items dir (upgrade_refusal b.storage items dir)
+
+-- `upgrade`: the machine of this name gets a directory on page `dir` of its parent, and version 2
+abbrev pub upgraded_of : Building → List ℕ → (dir : ℕ) → Result Building BuildKind
+upgraded_of b name dir = known_inside name b.names >>= λ k. upgraded_along b k dir (pin_of b.storage k.path)
 
 -- `start`: word 0 of the block becomes the program counter
 abbrev pub started_in : Building → Known → (pc : ℕ) → Result Building BuildKind

@@ -6,19 +6,20 @@ ghost use Rattle.hv_limits.specs.Limits.{depth_limit, harts_limit, pages_limit};
 ghost use Rattle.hv_load.specs.Answers.{Leaves, Passes};
 ghost use Rattle.hv_load.specs.Building.{nothing_built};
 ghost use Rattle.hv_load.specs.Build.{top_of, GivesStart, can_watch as can_watch_of, command_fault as command_fault_of, command_of, done_of, end_of, finish_of, named_of, part_of, parts_of, towered_of, watch_asked, watch_fault as watch_fault_of};
-ghost use Rattle.hv_load.specs.Directives.{dump_of, event_of, hart_of, image_of as image_done, machine_of, made_in, mapped_of, started_of, watch_of, words_of};
+ghost use Rattle.hv_load.specs.Directives.{dump_of, event_of, hart_of, image_of as image_done, machine_of, made_in, mapped_of, started_of, upgraded_of, watch_of, words_of};
 ghost use Rattle.hv_line.specs.JobLimits.{job_machines};
 ghost use Rattle.hv_line.specs.Ranges.{IsRanged, IsSize};
 ghost use Rattle.hv_map.specs.Chain.{map_of};
 ghost use Rattle.hv_samples.specs.declared.choice.Sample.TheVariants.{Pass, Forward};
 
 use crate::ends::{BuildEnd, BuildKind};
-use crate::finding::{Finding, mark_image, put_values};
+use crate::finding::{Finding, is_free, mark_image, put_values};
 use crate::levels::{level_name, name, tower};
 use crate::making::{Layout, take};
-use crate::pages::{block_of, place, table_word};
+use crate::pages::{block_of, parent_writes, place, table_word};
 use crate::parts::{DirectiveEnd, Entry, Mark, PlacedWatch, known, known_inside, named};
 use crate::start::{Dump, Named, Plan, Start};
+use hv_apart::upgrade;
 use hv_asm::Image;
 use hv_cpu::reset;
 use hv_job::{DebugCommand, DebugLine, Directive, Name, Placed};
@@ -123,6 +124,7 @@ impl Builder {
                 },
             ),
             Directive::Map { name, page, entry } => self.map(name, *page, *entry),
+            Directive::Upgrade { name, dir } => self.upgrade(name, *dir),
             Directive::Start { name, pc } => self.start(name, *pc),
             Directive::Image { name, image } | Directive::Sample { name, image } => {
                 self.image(alloc, name, image)
@@ -291,6 +293,27 @@ impl Builder {
         }
         let place = table_word(&self.store, &machine.path, page)?;
         self.store.put(place, entry);
+        Ok(())
+    }
+
+    /// A directory for a machine, on page `dir` of its parent, and version 2.
+    pub(crate) fn upgrade(&mut self, name: &Name, dir: u32) -> Result<(), DirectiveEnd>
+        ensures { Leaves result self.new (upgraded_of self.old name.now dir) }
+    {
+        let machine = known_inside(name, self.names.as_slice())?;
+        let Some(chain) = pin(&self.store, &machine.path) else {
+            return Err(BuildKind::Absent)?;
+        };
+        if chain.pages(&self.store) > PAGES {
+            return Err(BuildKind::Absent)?;
+        }
+        let directory = parent_writes(&self.store, &machine.path, dir);
+        upgrade(&mut self.store, &chain, dir)?;
+        let mark = &mut self.marks[directory? as usize];
+        if !is_free(*mark) {
+            return Err(BuildKind::Overlap)?;
+        }
+        *mark = Mark::Control;
         Ok(())
     }
 

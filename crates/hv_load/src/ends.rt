@@ -28,6 +28,10 @@ pub enum BuildKind {
     Overlap,
     /// The machine can't be watched.
     Watch,
+    /// The machine's block has version 2 already.
+    Version,
+    /// The bare pages on which the machine stands aren't all different.
+    Apart,
 }
 
 impl BuildKind {
@@ -46,6 +50,8 @@ impl BuildKind {
             BuildKind::Absent => "absent",
             BuildKind::Overlap => "overlap",
             BuildKind::Watch => "watch",
+            BuildKind::Version => "version",
+            BuildKind::Apart => "apart",
         }
     }
 }

@@ -78,6 +78,18 @@ pub(crate) fn block_of(store: &Store, path: &Path) -> Result<u32, BuildKind>
     }
 }
 
+/// The bare page in which a machine's parent writes its page.
+pub(crate) fn parent_writes(store: &Store, path: &Path, page: u32) -> Result<u32, BuildKind>
+    requires { 1 ≤ length path.now }
+    ensures page { result ≡ writes_in (map_of store.now (outer_of path.now)) page }
+    ensures within { IfOk result (λ g. g < page_count store.now) }
+{
+    match pin(store, &outer(path)) {
+        Some(chain) => writes(store, &chain, u64::from(page)),
+        None => Err(BuildKind::Absent),
+    }
+}
+
 /// The bare place of the word of page `page` in a machine's table.
 pub(crate) fn table_word(store: &Store, path: &Path, page: u32) -> Result<u32, BuildKind>
     requires path { 1 ≤ length path.now }

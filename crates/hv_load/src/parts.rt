@@ -8,6 +8,7 @@ ghost use Rattle.std.specs.Option.{option_copied};
 ghost use Rattle.std.specs.Str.{bytes_eq};
 
 use crate::ends::BuildKind;
+use hv_apart::UpgradeEnd;
 use hv_job::Name;
 use hv_map::{Path, Watch};
 use std::alloc::{AllocError, AllocFailed};
@@ -101,6 +102,24 @@ impl<T: Drop> From<AllocFailed<T>> for DirectiveEnd {
 
     fn from(_failed: AllocFailed<T>) -> DirectiveEnd {
         DirectiveEnd::Memory
+    }
+}
+
+impl From<UpgradeEnd> for DirectiveEnd {
+    ghost use Rattle.std.specs.Prelude.{◌≡◌};
+    ghost use Rattle.hv_load.specs.declared.parts.DirectiveEnd.TheVariants.{Fault};
+    ghost use Rattle.hv_load.specs.Kinds.{upgrade_kind};
+
+    ghost from_gives = { λ given end. end ≡ Fault (upgrade_kind given) };
+
+    fn from(given: UpgradeEnd) -> DirectiveEnd {
+        DirectiveEnd::Fault(match given {
+            UpgradeEnd::Version => BuildKind::Version,
+            UpgradeEnd::Apart => BuildKind::Apart,
+            UpgradeEnd::Outside => BuildKind::Outside,
+            UpgradeEnd::Shut { .. } => BuildKind::Absent,
+            UpgradeEnd::Overlap => BuildKind::Overlap,
+        })
     }
 }
 

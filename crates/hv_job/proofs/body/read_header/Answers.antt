@@ -8,16 +8,16 @@ returns-then-not-has_allowed_bytes-clause-rest c =
     (header_byte c.loop-rest.number c.loop-rest.rest.now c.first_line.result.0.now c.first_line.result.1.now _ c.first_line.ensures.cut
     c.loop-rest.invariant.told (search rules))
 
-pub returns-then-not-is_header-clause-rest : goal.returns-then-not-is_header-clause-rest
-returns-then-not-is_header-clause-rest c =
-    rw c.refused-then-not-is_header.ensures
+pub returns-in_default-clause-rest : goal.returns-in_default-clause-rest
+returns-in_default-clause-rest c =
+    rw c.refused-in_default.ensures
     (header_other c.loop-rest.number c.loop-rest.rest.now c.first_line.result.0.now c.first_line.result.1.now _ c.first_line.ensures.cut
     c.loop-rest.invariant.told (search rules) (search rules) (search rules))
 
 pub returns-then-has_words-clause-rest : goal.returns-then-has_words-clause-rest
 returns-then-has_words-clause-rest c =
     header_found c.loop-rest.number c.loop-rest.rest.now c.first_line.result.0.now c.first_line.result.1.now _ c.first_line.ensures.cut
-    c.loop-rest.invariant.told (search rules) (search rules) (search rules)
+    c.in-Some.version c.loop-rest.invariant.told (search rules) (search rules) (search rules)
 
 pub loop-rest-preserved : goal.loop-rest-preserved
 loop-rest-preserved c = record {

@@ -7,7 +7,7 @@ use Rattle.hv_job.proofs.commands.read_commands.Given as goal
 abbrev pub invariant-loop-rest : goal.invariant-loop-rest
 invariant-loop-rest l = record {
   size : l.number + length l.rest ≤ l.first + length l.fn.text;
-  told : commands_from l.commands l.number (lines_of l.rest) ≡ commands_from [] l.first (lines_of l.fn.text);
+  told : commands_from l.version l.commands l.number (lines_of l.rest) ≡ commands_from l.version [] l.first (lines_of l.fn.text);
 }
 
 abbrev pub decreases-loop-rest : goal.decreases-loop-rest

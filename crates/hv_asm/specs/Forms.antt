@@ -7,7 +7,8 @@ use Rattle.hv_asm.specs.declared.AsmKind.{AsmKind}
 use Rattle.hv_asm.specs.declared.AsmKind.TheVariants as fault
 use Rattle.hv_asm.specs.declared.amounts.Amount.{Amount}
 use Rattle.hv_asm.specs.declared.forms.Form.{Form}
-use Rattle.hv_asm.specs.declared.forms.Form.TheVariants.{Registers, Immediate, ShiftAmount, Load, Store, Branch, Jump, Upper, CsrRegister, CsrNumber, Sources, Source, Bare}
+use Rattle.hv_asm.specs.declared.forms.Form.TheVariants.{Registers, Immediate, ShiftAmount, Load, Store, Branch, Jump}
+use Rattle.hv_asm.specs.declared.forms.Form.TheVariants.{Upper, CsrRegister, CsrNumber, Sources, Source, Bare}
 use Rattle.hv_lex.specs.Refusing.{◌>>=◌}
 
 -- the form of a row of the instruction table

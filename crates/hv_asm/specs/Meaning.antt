@@ -1,5 +1,6 @@
 -- What the operands of a line say, and the words that its operation makes of them.
-use Rattle.std.specs.Prelude.{ℕ, ◌≡◌, ◌⊎◌, ◌+◌, ◌*◌, ◌%◌, ◌^◌, ◌<◌, ◌≤◌, ℤ, pos, ◌-ℤ◌, List, [], ◌∷◌, length, replicate, fold, Option, Some}
+use Rattle.std.specs.Prelude.{ℕ, ◌≡◌, ◌⊎◌, ◌+◌, ◌*◌, ◌%◌, ◌^◌, ◌<◌, ◌≤◌, ℤ, pos, ◌-ℤ◌, List, [], ◌∷◌, length}
+use Rattle.std.specs.Prelude.{replicate, fold, Option, Some}
 use Rattle.std.specs.List.{AllZip}
 use Rattle.hv_word.specs.Words.{signed_of}
 use Rattle.hv_isa.specs.Csrs.{csr_number_of}
@@ -12,8 +13,10 @@ use Rattle.hv_asm.specs.Limits.{space_limit}
 use Rattle.hv_asm.specs.Names.{register_of}
 use Rattle.hv_asm.specs.Operands.{text_of}
 use Rattle.hv_asm.specs.declared.names.Operation.{Operation}
-use Rattle.hv_asm.specs.declared.names.Operation.TheVariants.{Row, Nop, Mv, J, Ret, Beqz, Bnez, Csrr, Csrw, Li, La, Words, Space}
-use Rattle.hv_asm.specs.Roles.{Role, Rd, Rs1, Rs2, Immediate, Upper, Based, Target, Control, Small, roles_of, plain, rest_of, without}
+use Rattle.hv_asm.specs.declared.names.Operation.TheVariants.{Row, Nop, Mv, J, Ret, Beqz, Bnez, Csrr, Csrw, Li, La}
+use Rattle.hv_asm.specs.declared.names.Operation.TheVariants.{Words, Space}
+use Rattle.hv_asm.specs.Roles.{Role, Rd, Rs1, Rs2, Immediate, Upper, Based, Target, Control, Small, roles_of, plain}
+use Rattle.hv_asm.specs.Roles.{rest_of, without}
 
 -- the labels that are defined, and their addresses
 abbrev pub Addresses : Type 0

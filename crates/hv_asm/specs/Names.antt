@@ -6,7 +6,8 @@ use Rattle.std.specs.Str.{bytes_eq}
 use Rattle.hv_isa.specs.Names.{name_of}
 use Rattle.hv_isa.specs.Table.{ops}
 use Rattle.hv_asm.specs.declared.names.Operation.{Operation}
-use Rattle.hv_asm.specs.declared.names.Operation.TheVariants.{Row, Nop, Mv, J, Ret, Beqz, Bnez, Csrr, Csrw, Li, La, Words, Space}
+use Rattle.hv_asm.specs.declared.names.Operation.TheVariants.{Row, Nop, Mv, J, Ret, Beqz, Bnez, Csrr, Csrw, Li, La}
+use Rattle.hv_asm.specs.declared.names.Operation.TheVariants.{Words, Space}
 
 -- the number of a name in a table
 unfoldable pub number_in : List (ℕ × List ℕ) → List ℕ → Option ℕ

@@ -1,5 +1,6 @@
 -- The words of an operation, and of a line.
-use Rattle.std.specs.Prelude.{ℕ, ◌+◌, ◌-◌, ◌/◌, ◌%◌, ◌^◌, ◌==◌, ◌&&◌, nat_lt, nat_le, is_some, List, [], ◌∷◌, length, Bool, true, false, if◌then◌else◌, Option, Result, Ok, Err, replicate}
+use Rattle.std.specs.Prelude.{ℕ, ◌+◌, ◌-◌, ◌/◌, ◌%◌, ◌^◌, ◌==◌, ◌&&◌, nat_lt, nat_le, is_some, List, [], ◌∷◌, length}
+use Rattle.std.specs.Prelude.{Bool, true, false, if◌then◌else◌, Option, Result, Ok, Err, replicate}
 use Rattle.std.specs.List.{list_all}
 use Rattle.hv_isa.specs.declared.Op.{Op}
 use Rattle.hv_isa.specs.declared.Op.TheVariants as op

@@ -97,8 +97,8 @@ fits_hart r =
     && (r.sepc % 4 == 0)
     && (bit_and r.satp satp_mask == r.satp)
 
--- whether a child can have these pages, table, version and next: a size and a table that can be, a next inside its pages, and
--- a version that there is
+-- whether a child can have these pages, table, version and next: a size and a table that can be, a next inside its
+-- pages, and a version that there is
 abbrev pub fits_size : ℕ → ℕ → ℕ → ℕ → Bool
 fits_size pages table version next =
     nat_lt 0 pages

@@ -10,7 +10,8 @@ use Rattle.hv_csr.specs.Table.{row_of, csr_of}
 -- TVM keeps satp from S (section 3.1.6.5)
 abbrev pub is_barred : Regs → ℕ → Bool
 is_barred r number =
-    nat_lt r.mode (field_of number 8 2) || (number == (row_of Satp).number && (r.mode == 1 && field_of r.mstatus 20 1 == 1))
+    nat_lt r.mode (field_of number 8 2)
+    || (number == (row_of Satp).number && (r.mode == 1 && field_of r.mstatus 20 1 == 1))
 
 -- bits 11:10 of the number are 3 where the register can only be read (section 2.1)
 abbrev pub is_read_only : ℕ → Bool

@@ -1,5 +1,6 @@
 -- A word as a line of assembly, in the notation of the Unprivileged ISA's chapter 25 (registers as x0 to x31).
-use Rattle.std.specs.Prelude.{ℕ, ◌-◌, ◌/◌, ◌^◌, ◌==◌, nat_lt, Bool, true, false, if◌then◌else◌, List, [], ◌++◌, Option, Some, None, codes}
+use Rattle.std.specs.Prelude.{ℕ, ◌-◌, ◌/◌, ◌^◌, ◌==◌, nat_lt, Bool, true, false, if◌then◌else◌, List, [], ◌++◌}
+use Rattle.std.specs.Prelude.{Option, Some, None, codes}
 use Rattle.std.specs.Fmt.{decimal, radix_digits}
 use Rattle.hv_text.specs.Text.{hex8}
 use Rattle.hv_word.specs.Words.{field_of}

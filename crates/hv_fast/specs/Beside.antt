@@ -17,8 +17,9 @@ use Rattle.hv_fast.specs.Marked.{BlocksIn, Marked, has_mark, listed}
 use Rattle.hv_fast.specs.Memo.{IsRightMemo}
 use Rattle.hv_fast.specs.Rides.{QuietBlocks}
 
--- The pin is that of a hart with the registers r: its machines are those on the path that the hart runs, it names that path and
--- the block of the last, the machines outside that are quiet, each translation at hand is right, and what all this rests on is marked.
+-- The pin is that of a hart with the registers r: its machines are those on the path that the hart runs, it names that
+-- path and the block of the last, the machines outside that are quiet, each translation at hand is right, and what all
+-- this rests on is marked.
 pub record IsReady (S : List ℕ) (r : Regs) (m : Marked) (p : Pin) : Type 0 where
   pub pin : IsPin S r p.chain (listed m.tables)
   pub path : p.path ≡ syllables p.chain
@@ -27,8 +28,8 @@ pub record IsReady (S : List ℕ) (r : Regs) (m : Marked) (p : Pin) : Type 0 whe
   pub quiet : QuietBlocks S p.chain
   pub memo : IsRightMemo S p.chain m.tables p.memo
 
--- A held translation is right: its number is that of a path, and the page has this slot in the map of the machine there. It
--- rests on the pages that are kept with it.
+-- A held translation is right: its number is that of a path, and the page has this slot in the map of the machine
+-- there. It rests on the pages that are kept with it.
 pub record EntryIsRight (S : List ℕ) (paths : List (List ℕ)) (e : Entry) : Type 0 where
   pub items : List Item
   pub named : slice_get paths (e.0).0 ≡ Some (syllables items)
@@ -38,14 +39,14 @@ pub record EntryIsRight (S : List ℕ) (paths : List (List ℕ)) (e : Entry) : T
 abbrev pub EntriesAreRight : List ℕ → List (List ℕ) → List Entry → Type 0
 EntriesAreRight S paths es = AllByRecursion (EntryIsRight S paths) es
 
--- The pin is that of the hart that rode last: it is in use, and the registers at hand are those in its block. (That the block is
--- in a page of the storage, and that no machine runs there, is so of each pin that is ready.)
+-- The pin is that of the hart that rode last: it is in use, and the registers at hand are those in its block. (That
+-- the block is in a page of the storage, and that no machine runs there, is so of each pin that is ready.)
 pub record IsMounted (S : List ℕ) (p : Pin) (inner : Regs) : Type 0 where
   pub live : p.live ≡ true
   pub regs : regs_at S p.block ≡ inner
 
--- With the storage S and the harts R everything is right: each pin that is in use, the registers of the machine at the end of
--- the pin of the hart that rode last, and each held translation.
+-- With the storage S and the harts R everything is right: each pin that is in use, the registers of the machine at the
+-- end of the pin of the hart that rode last, and each held translation.
 pub record IsRightBeside (S : List ℕ) (R : List Regs) (b : Beside) : Type 0 where
   pub count : length b.pins.items ≡ length R
   pub pins :
@@ -100,8 +101,8 @@ pub record SamePins (b c : Beside) : Type 0 where
   pub rider : c.rider ≡ b.rider
   pub inner : c.inner ≡ b.inner
 
--- What is kept after the word at place a changed: the pins and the marks, where nothing that is marked rests on its page, or
--- none; and of the entries those alone that are spared.
+-- What is kept after the word at place a changed: the pins and the marks, where nothing that is marked rests on its
+-- page, or none; and of the entries those alone that are spared.
 pub record WordIsSpared (T : List ℕ) (a : ℕ) (b c : Beside) : Type 0 where
   pub ids : c.ids ≡ b.ids
   pub count : length c.pins.items ≡ length b.pins.items

@@ -46,9 +46,10 @@ abbrev pub has_noted_mark : Marked → List Entry → List Note → Bool
 has_noted_mark m es notes =
     list_any (λ (n : Note). has_mark m (n.at / 1024) || any_rests_on (n.at / 1024) es) notes
 
--- One instruction of the last of the items, from the storage S and the registers r of its block in bare page g to U and q, of
--- whose words nothing rests on those that it wrote itself, neither what is marked nor an entry.
-pub record HasRidden (S U : List ℕ) (m : Marked) (es : List Entry) (items : List Item) (g : ℕ) (r q : Regs) : Type 0 where
+-- One instruction of the last of the items, from the storage S and the registers r of its block in bare page g to U
+-- and q, of whose words nothing rests on those that it wrote itself, neither what is marked nor an entry.
+pub record HasRidden
+    (S U : List ℕ) (m : Marked) (es : List Entry) (items : List Item) (g : ℕ) (r q : Regs) : Type 0 where
   pub after : List ℕ
   pub acts : act_of S (map_along S items) 0 r ≡ Done after q
   pub marked : IsRidden S after U m g q

@@ -1,6 +1,7 @@
 -- What a line of a job may be, as it is written: one form for each line of the table, with its words and its ranges.
 -- Which forms and ranges there are says the first line with words, `job 1` or `job 2`.
-use Rattle.std.specs.Prelude.{◌≡◌, ◌⊎◌, ◌↔◌, ℕ, ◌+◌, ◌*◌, ◌%◌, ◌^◌, ◌<◌, ◌≤◌, true, bit_and, List, [], ◌∷◌, map, length, codes, Some, Ok}
+use Rattle.std.specs.Prelude.{◌≡◌, ◌⊎◌, ◌↔◌, ℕ, ◌+◌, ◌*◌, ◌%◌, ◌^◌, ◌<◌, ◌≤◌, true, bit_and, List, [], ◌∷◌, map}
+use Rattle.std.specs.Prelude.{length, codes, Some, Ok}
 use Rattle.hv_irq.specs.declared.Event.TheVariants as event
 use Rattle.hv_lex.specs.Numbers.{number_of}
 use Rattle.hv_limits.specs.Limits.{lines_mask, pages_limit, steps_limit}

@@ -1,5 +1,6 @@
 -- The commands of the debugger, which stand behind the directives.
-use Rattle.std.specs.Prelude.{ℕ, ◌+◌, ◌||◌, nat_le, not, Bool, if◌then◌else◌, List, [], ◌∷◌, ◌++◌, length, Result, Ok, Err}
+use Rattle.std.specs.Prelude.{ℕ, ◌+◌, ◌||◌, nat_le, not, Bool, if◌then◌else◌, List, [], ◌∷◌, ◌++◌, length, Result, Ok}
+use Rattle.std.specs.Prelude.{Err}
 use Rattle.hv_line.specs.Commands.{command_of, join_words_of}
 use Rattle.hv_line.specs.JobLimits.{job_breaks, job_commands}
 use Rattle.hv_line.specs.Lines.{has_words, is_allowed, words_of}

@@ -1,5 +1,6 @@
 -- What holds of the job of a text: the values are in their ranges, and the limits are kept.
-use Rattle.std.specs.Prelude.{◌≡◌, ℕ, ◌≤◌, Bool, true, false, List, length, map, All, count_by, filter_map, Option, Some, None}
+use Rattle.std.specs.Prelude.{◌≡◌, ℕ, ◌≤◌, Bool, true, false, List, length, map, All, count_by, filter_map, Option}
+use Rattle.std.specs.Prelude.{Some, None}
 use Rattle.hv_irq.specs.declared.Event.{Event}
 use Rattle.hv_irq.specs.declared.Event.TheVariants as event
 use Rattle.hv_line.specs.JobLimits.{job_breaks, job_commands, job_harts}

@@ -1,5 +1,6 @@
 -- The job of a text: the first refusal over all of its lines, or what they ask for.
-use Rattle.std.specs.Prelude.{ℕ, ◌+◌, ◌&&◌, nat_lt, not, Bool, true, false, if◌then◌else◌, List, [], ◌∷◌, ◌++◌, length, codes, find, take_while, unwrap_or, Option, Some, None, Result, Ok, Err}
+use Rattle.std.specs.Prelude.{ℕ, ◌+◌, ◌&&◌, nat_lt, not, Bool, true, false, if◌then◌else◌, List, [], ◌∷◌, ◌++◌}
+use Rattle.std.specs.Prelude.{length, codes, find, take_while, unwrap_or, Option, Some, None, Result, Ok, Err}
 use Rattle.hv_asm.specs.Assembly.{asm_of, place_of, words_from}
 use Rattle.hv_asm.specs.declared.AsmKind.{AsmKind}
 use Rattle.hv_asm.specs.declared.AsmKind.TheVariants as asm

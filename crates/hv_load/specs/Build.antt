@@ -1,5 +1,6 @@
 -- A job built: its directives in the order of their lines, then the commands of the debugger, and last the watches.
-use Rattle.std.specs.Prelude.{◌≡◌, ℕ, Bool, true, false, ◌||◌, nat_le, if◌then◌else◌, List, [], ◌∷◌, ◌++◌, length, map, is_some, Option, Some, None, Result, Ok, Err, codes}
+use Rattle.std.specs.Prelude.{◌≡◌, ℕ, Bool, true, false, ◌||◌, nat_le, if◌then◌else◌, List, [], ◌∷◌, ◌++◌, length}
+use Rattle.std.specs.Prelude.{map, is_some, Option, Some, None, Result, Ok, Err, codes}
 use Rattle.hv_limits.specs.Limits.{pages_limit}
 use Rattle.hv_store.specs.declared.access.Slot.{Slot}
 use Rattle.hv_line.specs.declared.types.DebugCommand.{DebugCommand}
@@ -21,7 +22,8 @@ use Rattle.hv_load.specs.declared.start.Named.{Named}
 use Rattle.hv_load.specs.declared.start.Plan.{Plan}
 use Rattle.hv_load.specs.declared.start.Start.{Start}
 use Rattle.hv_load.specs.Building.{Building, Known, known, named, nothing_built}
-use Rattle.hv_load.specs.Directives.{dump_of, event_of, hart_of, image_of, machine_of, mapped_of, started_of, upgraded_of, watch_of, words_of}
+use Rattle.hv_load.specs.Directives.{dump_of, event_of, hart_of, image_of, machine_of, mapped_of, started_of}
+use Rattle.hv_load.specs.Directives.{upgraded_of, watch_of, words_of}
 use Rattle.hv_load.specs.Tower.{level_name, tower_of}
 use Rattle.hv_lex.specs.Refusing.{◌>>=◌, at_line}
 

@@ -1,5 +1,6 @@
 -- What each directive does, or why it is refused, in the order of its tests.
-use Rattle.std.specs.Prelude.{ℕ, ◌+◌, ◌*◌, ◌/◌, Bool, false, ◌||◌, nat_lt, nat_le, if◌then◌else◌, List, [], ◌∷◌, ◌++◌, length, map, is_some, Option, Some, None, Result, Ok, Err, slice_set}
+use Rattle.std.specs.Prelude.{ℕ, ◌+◌, ◌*◌, ◌/◌, Bool, false, ◌||◌, nat_lt, nat_le, if◌then◌else◌, List, [], ◌∷◌, ◌++◌}
+use Rattle.std.specs.Prelude.{length, map, is_some, Option, Some, None, Result, Ok, Err, slice_set}
 use Rattle.hv_apart.specs.Upgrade.{upgrade_refusal, upgraded}
 use Rattle.hv_apart.specs.declared.upgrading.UpgradeEnd.{UpgradeEnd}
 use Rattle.hv_asm.specs.declared.Image.{Image}
@@ -15,7 +16,8 @@ use Rattle.hv_load.specs.declared.ends.BuildKind.TheVariants as kind
 use Rattle.hv_load.specs.declared.parts.Mark.TheVariants as mark
 use Rattle.hv_load.specs.Building.{Building, Known, known, known_inside, named}
 use Rattle.hv_load.specs.Kinds.{upgrade_kind}
-use Rattle.hv_load.specs.Pages.{block_page, each_from, free_page_of, if_free, marked, outer, page_at, page_of, place_by, reads_in, table_word_of, with_values, writes_in}
+use Rattle.hv_load.specs.Pages.{block_page, each_from, free_page_of, if_free, marked, outer, page_at, page_of}
+use Rattle.hv_load.specs.Pages.{place_by, reads_in, table_word_of, with_values, writes_in}
 use Rattle.hv_load.specs.Making.{can_take, with_machine}
 use Rattle.hv_lex.specs.Refusing.{◌>>=◌}
 

@@ -1,5 +1,6 @@
 -- The job of a number N: a kernel of additions at the top of a tower of N mod 9 machines, and turns that run it.
-use Rattle.std.specs.Prelude.{ℕ, zero, suc, ◌+◌, ◌-◌, ◌*◌, ◌/◌, ◌%◌, ◌^◌, ◌==◌, if◌then◌else◌, List, [], ◌∷◌, ◌++◌, length, map, replicate, codes}
+use Rattle.std.specs.Prelude.{ℕ, zero, suc, ◌+◌, ◌-◌, ◌*◌, ◌/◌, ◌%◌, ◌^◌, ◌==◌, if◌then◌else◌, List, [], ◌∷◌, ◌++◌}
+use Rattle.std.specs.Prelude.{length, map, replicate, codes}
 use Rattle.std.specs.List.{range_with_len}
 use Rattle.hv_word.specs.Words.{sext_of}
 use Rattle.hv_irq.specs.declared.Event.{Event}

@@ -1,5 +1,6 @@
 -- What the notes of a step say of it.
-use Rattle.std.specs.Prelude.{◌≡◌, ℕ, ◌+◌, ◌≤◌, if◌then◌else◌, not, ◌&&◌, ◌==◌, nat_lt, List, [], length, drop, take, slice_index}
+use Rattle.std.specs.Prelude.{◌≡◌, ℕ, ◌+◌, ◌≤◌, if◌then◌else◌, not, ◌&&◌, ◌==◌, nat_lt, List, [], length, drop, take}
+use Rattle.std.specs.Prelude.{slice_index}
 use Rattle.hv_cpu.specs.Regs.{Regs, spelled}
 use Rattle.hv_exec.specs.Changes.{changed_regs}
 use Rattle.hv_nest.specs.declared.changed.ChangedRow.{ChangedRow}

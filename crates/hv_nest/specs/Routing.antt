@@ -1,5 +1,7 @@
 -- Where a refusal goes: to the machine whose map refused first, whichever machine runs.
-use Rattle.std.specs.Prelude.{◌≡◌, ◌≢◌, ℕ, ◌<◌, ◌⊎◌, ◌↔◌, Bool, ◌&&◌, ◌||◌, ◌==◌, nat_le, if◌then◌else◌, IsTrue, IsFalse, is_none, IsSome, IfSome, IsSomeAnd, List, [], ◌∷◌, length, Option, Some, None, slice_get}
+use Rattle.std.specs.Prelude.{◌≡◌, ◌≢◌, ℕ, ◌<◌, ◌⊎◌, ◌↔◌, Bool, ◌&&◌, ◌||◌, ◌==◌, nat_le, if◌then◌else◌, IsTrue}
+use Rattle.std.specs.Prelude.{IsFalse, is_none, IsSome, IfSome, IsSomeAnd, List, [], ◌∷◌, length, Option, Some, None}
+use Rattle.std.specs.Prelude.{slice_get}
 use Rattle.std.specs.Option.{option_and_then}
 use Rattle.hv_word.specs.Storage.{page_count}
 use Rattle.hv_cpu.specs.Regs.{Regs}

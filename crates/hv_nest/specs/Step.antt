@@ -80,8 +80,8 @@ abbrev pub child_step_through : Machine → List ℕ → List Slot → ℕ → R
 child_step_through deeper S F j r (Open g) = child_step deeper S F j r g (block_of S g)
 child_step_through deeper S F j r (Shut l c p w) = Barred (refused l c p w 0 Write)
 
--- The page of the block must be one that the machine may write. (A machine keeps its next below its number of pages, so the
--- case of a page that it hasn't is never reached.)
+-- The page of the block must be one that the machine may write. (A machine keeps its next below its number of pages,
+-- so the case of a page that it hasn't is never reached.)
 abbrev pub child_step_at : Machine → List ℕ → List Slot → ℕ → Regs → Option Slot → Stepped
 child_step_at deeper S F j r None = Barred (too_deep r.next)
 child_step_at deeper S F j r (Some slot) = child_step_through deeper S F j r slot.write

@@ -1,6 +1,7 @@
 -- A watch names a hart and a machine by its path. What counts for it, and what may not be changed by others, is fixed
 -- by the state at the start and by the moves.
-use Rattle.std.specs.Prelude.{ℕ, ◌+◌, ◌*◌, ◌%◌, Bool, true, false, not, ◌&&◌, ◌==◌, nat_eq, nat_lt, if◌then◌else◌, List, [], ◌∷◌, ◌++◌, map, length, Option, Some, None, slice_get, slice_index}
+use Rattle.std.specs.Prelude.{ℕ, ◌+◌, ◌*◌, ◌%◌, Bool, true, false, not, ◌&&◌, ◌==◌, nat_eq, nat_lt, if◌then◌else◌}
+use Rattle.std.specs.Prelude.{List, [], ◌∷◌, ◌++◌, map, length, Option, Some, None, slice_get, slice_index}
 use Rattle.std.specs.List.{range_with_len, flat_map, starts_with}
 use Rattle.hv_word.specs.Storage.{page_count, word_at}
 use Rattle.hv_cpu.specs.Regs.{Regs}

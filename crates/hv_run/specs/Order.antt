@@ -12,7 +12,8 @@ outcome_of st hart = record {
   changed = differences st.storage (moved_of st hart).state.storage;
 }
 
--- The step has the same outcome before the change of lines and after it, and both lead to the same state in either order.
+-- The step has the same outcome before the change of lines and after it, and both lead to the same state in either
+-- order.
 pub record Commute (st : State) (stepping lined mask : ℕ) : Type 0 where
   pub outcome : outcome_of (state_after st (LinesOf lined mask)) stepping ≡ outcome_of st stepping
   pub state :

@@ -1,6 +1,7 @@
 -- What a play promises: a watched machine that stands apart can't tell that it runs inside others, as long as none of
 -- these touches it; and each fault is told to the machine whose map refused first.
-use Rattle.std.specs.Prelude.{◌≡◌, ℕ, ◌+◌, ◌*◌, ◌≤◌, true, false, Bool, IfSome, IsTrue, IsFalse, List, [], ◌∷◌, ◌++◌, length, take, Option, Some, None, slice_get}
+use Rattle.std.specs.Prelude.{◌≡◌, ℕ, ◌+◌, ◌*◌, ◌≤◌, true, false, Bool, IfSome, IsTrue, IsFalse, List, [], ◌∷◌, ◌++◌}
+use Rattle.std.specs.Prelude.{length, take, Option, Some, None, slice_get}
 use Rattle.hv_cpu.specs.Regs.{Regs}
 use Rattle.hv_store.specs.declared.access.Refusal.{Refusal}
 use Rattle.hv_block.specs.Block.{regs_at}
@@ -71,8 +72,8 @@ IsBareRun start moves w =
 abbrev pub AreBareRuns : State → List Move → List WatchOf → Type 0
 AreBareRuns start moves watches = EachWatch (IsBareRun start moves) watches
 
--- Guests can't tell, whatever the start and the moves. (The watches are of machines that are there, and a change of lines
--- changes lines alone.)
+-- Guests can't tell, whatever the start and the moves. (The watches are of machines that are there, and a change of
+-- lines changes lines alone.)
 abbrev pub GuestsLaw : Type 0
 GuestsLaw =
     (start : State) (moves : List Move) (watches : List WatchOf)
@@ -135,8 +136,8 @@ AreRouted start moves faults = EachFault (IsRoutedFault start moves) faults
 abbrev pub FaultsAreRouted : State → List Move → Type 0
 FaultsAreRouted start moves = AreRouted start moves (all_faults start moves)
 
--- Faults reach the first refusing level, whatever the start and the moves. (Every hart is there, and what it runs is a page of
--- the storage.)
+-- Faults reach the first refusing level, whatever the start and the moves. (Every hart is there, and what it runs is a
+-- page of the storage.)
 abbrev pub FaultsLaw : Type 0
 FaultsLaw =
     (start : State) (moves : List Move)

@@ -1,5 +1,6 @@
--- How a tower of machines lies in the bare storage. The pages of each machine are bare pages in their order: its program
--- on page 0, the block of its child on page 1, the table of its child from page 2 on, and then the pages of its child.
+-- How a tower of machines lies in the bare storage. The pages of each machine are bare pages in their order: its
+-- program on page 0, the block of its child on page 1, the table of its child from page 2 on, and then the pages of
+-- its child.
 use Rattle.std.specs.Prelude.{◌≡◌, ℕ, ◌+◌, ◌*◌, ◌<◌, ◌≤◌, true, List, [], ◌∷◌, length, map, replicate, Some}
 use Rattle.std.specs.List.{range_with_len}
 use Rattle.hv_word.specs.Storage.{page_count, word_at}

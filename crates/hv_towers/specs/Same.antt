@@ -13,9 +13,10 @@ pub record TowerRun (depth top m : ℕ) (parts : List Placed) (start alone : Sta
   pub built : TowerBuilt depth top parts start alone
   pub played : TowerPlayed depth start.store alone.store built.items m
 
--- Where a job with a tower and one hart is built, and the same lines on a bare machine are too, the program at the top is
--- watched whole: its pages are different and apart, nobody touches it, the monitors' steps aren't counted, and it has made
--- m steps and is as the bare machine after m steps, unless a machine was asked to run another that is too deep.
+-- Where a job with a tower and one hart is built, and the same lines on a bare machine are too, the program at the top
+-- is watched whole: its pages are different and apart, nobody touches it, the monitors' steps aren't counted, and it
+-- has made m steps and is as the bare machine after m steps, unless a machine was asked to run another that is too
+-- deep.
 abbrev pub TowerLaw : Type 0
 TowerLaw =
     (job : Job) (pages depth top line m : ℕ) (parts : List Placed) (start alone : Start)

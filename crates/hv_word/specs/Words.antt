@@ -1,5 +1,6 @@
 -- Words, which are numbers below 2 ^ 32 (Unprivileged ISA, chapter 2).
-use Rattle.std.specs.Prelude.{ℕ, ◌+◌, ◌-◌, ◌*◌, ◌/◌, ◌%◌, ◌^◌, ◌<◌, ◌==◌, nat_lt, if◌then◌else◌, ℤ, pos, negsuc, Bool, List}
+use Rattle.std.specs.Prelude.{ℕ, ◌+◌, ◌-◌, ◌*◌, ◌/◌, ◌%◌, ◌^◌, ◌<◌, ◌==◌, nat_lt, if◌then◌else◌, ℤ, pos, negsuc, Bool}
+use Rattle.std.specs.Prelude.{List}
 use Rattle.std.specs.List.{list_any}
 use Rattle.hv_word.specs.declared.Lane.{Lane}
 use Rattle.hv_word.specs.declared.Lane.TheVariants.{Byte, Half, Word}

@@ -11,6 +11,8 @@ use hv_store::Store;
 /// The bare machine, with its storage and its harts, and the machines inside it. What an engine keeps besides that state
 /// can't be told from its answers.
 pub trait Nested {
+    ghost use Rattle.hv_word.specs.Storage.{page_count};
+    ghost use Rattle.hv_nest.specs.Kinds.{NextBelow};
     ghost use Rattle.hv_nest.specs.State.{State, IsNextInside};
     ghost use Rattle.hv_limits.specs.Limits.{harts_limit};
 
@@ -65,10 +67,11 @@ pub trait Nested {
         ensures yes { result ≡ true → path.now ≡ running_of (state self.now) hart }
         ensures no { result ≡ false → path.now ≢ running_of (state self.now) hart };
 
-    /// The registers of a hart.
+    /// The registers of a hart. What it is to run next, if anything, is on a page of the storage.
     fn cpu(&self, hart: u32) -> Cpu
         requires { hart < length (state self.now).harts }
-        ensures { slice_get (state self.now).harts hart ≡ Some result };
+        ensures cpu { slice_get (state self.now).harts hart ≡ Some result }
+        ensures next { NextBelow (page_count (state self.now).storage) result };
 
     /// The interrupts that are pending in a hart, with its lines.
     fn mip(&self, hart: u32) -> u32

@@ -5,7 +5,7 @@ use Rattle.std.specs.List.{AllByRecursion, flat_map, range_with_len}
 use Rattle.std.proofs.lemmas.Bool.{cases_lt, eq-eqb, eqb-true}
 use Rattle.std.proofs.lemmas.Bool.Decides.{eqb_tells}
 use Rattle.std.proofs.lemmas.List.{get_or_past}
-use Rattle.std.proofs.lemmas.Option.{get_or_from_slice_get, same_Some, slice_get-get_or, slice_get_within}
+use Rattle.std.proofs.lemmas.Option.{get_or_from_slice_get, same_Some, slice_get-get_or, slice_get_cases, slice_get_within}
 use Rattle.hv_word.specs.Storage.{word_at}
 use Rattle.hv_word.specs.Words.{has}
 use Rattle.hv_cpu.specs.Regs.{Regs}
@@ -14,7 +14,7 @@ use Rattle.hv_block.specs.Block.{is_block, regs_at}
 use Rattle.hv_block.proofs.Blocks.{block_alike, regs_alike}
 use Rattle.hv_map.specs.Apart.{blocks_of}
 use Rattle.hv_map.specs.Chain.{child_with}
-use Rattle.hv_map.specs.Held.{SameNexts, SamePage, SamePages, SaysItem, SaysItems}
+use Rattle.hv_map.specs.Held.{Nexts, SameNexts, SamePage, SamePages, SaysItem, SaysItems}
 use Rattle.hv_map.specs.Item.{Item}
 use Rattle.hv_map.specs.Links.{last_block}
 use Rattle.hv_map.proofs.Holding.{held_stays, pin_stays}
@@ -394,3 +394,24 @@ unpinned_already S R b h p right there off = record {
   cache = refl;
   inner = refl;
 }
+
+-- a pin of a machine is that of a hart that runs one
+runs_one : (S : List ℕ) (r : Regs) (items : List Item) (block : ℕ) → last_block items ≡ Some block → Nexts S r items → r.next ≢ 0
+runs_one S r [] block ends nexts idle = cc
+runs_one S r (x ∷ xs) block ends nexts idle = let e : r.next ≡ x.syllable = (nexts.0).0 in let some : 0 < x.syllable = (nexts.0).1 in omega (arith, e, some, idle)
+
+-- so a hart that runs no machine has no pin in use
+pub idle_unpinned : (S : List ℕ) (R : List Regs) (b : Beside) (h : ℕ) (r : Regs) → IsRightBeside S R b → slice_get R h ≡ Some r → r.next ≡ 0 → IsUnpinned h b b
+idle_unpinned S R b h r right has idle = by ((slice_get_cases b.pins.items h).1)
+  where
+    unpinned : (p : Pin) → slice_get b.pins.items h ≡ Some p → IsUnpinned h b b
+    unpinned p there =
+        unpinned_already S R b h p right there
+        (elim p.live as (λ v. p.live ≡ v → p.live ≡ false) [
+          | true ↦ λ on. let k = right.pins h r p has there on in absurd (runs_one S r p.chain p.block k.ends k.pin.nexts idle)
+          | false ↦ λ off. off
+        ] refl)
+
+    by : ((p : Pin) × (h < length b.pins.items) × (slice_get b.pins.items h ≡ Some p) × (get_or b.pins.items h p ≡ p)) ⊎ ((length b.pins.items ≤ h) × (slice_get b.pins.items h ≡ None)) → IsUnpinned h b b
+    by (inl found) = unpinned found.0 found.2
+    by (inr past) = absurd (let lt : h < length R = slice_get_within R h r has in let le : length b.pins.items ≤ h = past.0 in omega (arith, lt, le, right.count))

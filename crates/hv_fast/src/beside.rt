@@ -288,6 +288,16 @@ impl Beside {
         ensures count { length self.new.pins.items ≡ length self.old.pins.items }
     {
         self.unpin(hart);
+        self.spare_all(store, changed);
+    }
+
+    /// Drops what rests on these words, which a step of a hart that has no pin in use changed.
+    #[inline(always)]
+    pub(crate) fn spare_all(&mut self, store: &Store, changed: &Changed)
+        ensures right { (S : List ℕ) (R : List Regs) (h : ℕ) (r : Regs) (b : Beside) → IsUnpinned h b self.old → IsRightBeside S R b
+            → length S ≡ length store.now → changed.now ≡ differences S store.now → IsRightBeside store.now (slice_set R h r) self.new }
+        ensures count { length self.new.pins.items ≡ length self.old.pins.items }
+    {
         for row in changed.as_slice() {
             self.spare(store, row.at);
         }
@@ -332,13 +342,21 @@ impl Beside {
     }
 }
 
-// Whether two paths are the same.
+// Whether two paths are the same, by their syllables one by one: they are short.
 #[inline(always)]
 fn is_same(path: &Path, other: &Path) -> bool
     ensures yes { result ≡ true → other.now ≡ path.now }
     ensures no { result ≡ false → other.now ≢ path.now }
 {
-    path.as_slice() == other.as_slice()
+    if path.len() != other.len() {
+        return false;
+    }
+    for i in 0..path.len() {
+        if path.at(i) != other.at(i) {
+            return false;
+        }
+    }
+    true
 }
 
 // Whether the hart with these registers runs the machine on this path, by a path found anew. It needs room for that path, so it

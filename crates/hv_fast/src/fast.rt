@@ -1,6 +1,6 @@
 //! The engine that keeps pins and held translations beside the state.
 
-ghost use Rattle.std.specs.Prelude.{◌≡◌, ◌<◌, All, IfOk, List, ℕ, length, true, false};
+ghost use Rattle.std.specs.Prelude.{◌≡◌, ◌<◌, All, IfOk, IfSome, List, ℕ, length, slice_get, true, false};
 ghost use Rattle.hv_word.specs.Storage.{page_count};
 ghost use Rattle.hv_nest.specs.Changes.{differences};
 ghost use Rattle.hv_nest.specs.Frame.{IsFramedBy};
@@ -77,6 +77,23 @@ impl Fast {
         self.beside.ride(&mut self.store, hart, changed)
     }
 
+    // The step of a hart that runs no machine, and so has no pin in use.
+    #[inline(always)]
+    fn step_bare(&mut self, hart: u32, outcome: &mut Outcome)
+        requires hart { hart < length self.old.state.harts }
+        requires idle { IfSome (slice_get self.old.state.harts hart) (λ r. r.next ≡ 0) }
+        ensures moves { record { kind = outcome.new.kind; state = self.new.state } ≡ moved_of self.old.state hart }
+        ensures changed { outcome.new.changed ≡ differences self.old.state.storage self.new.state.storage }
+        ensures frame { IsFramedBy self.old.state.storage (running_of self.old.state hart) self.new.state.storage }
+        ensures harts { length self.new.state.harts ≡ length self.old.state.harts }
+        ensures len { length self.new.state.storage ≡ length self.old.state.storage }
+    {
+        let _pages = self.store.pages();
+        self.harts
+            .step_into(&mut self.store, &mut self.beside.notes, hart, outcome);
+        self.beside.spare_all(&self.store, &outcome.changed);
+    }
+
     // The step of a hart, found anew.
     #[inline(always)]
     fn step_anew(&mut self, hart: u32, outcome: &mut Outcome)
@@ -100,7 +117,9 @@ impl Nested for Fast {
     #[inline(always)]
     fn step_into(&mut self, hart: u32, outcome: &mut Outcome) {
         let _pages = self.store.pages();
-        if self.ride(hart, &mut outcome.changed) {
+        if entered(self.harts.at(hart)).is_none() {
+            self.step_bare(hart, outcome);
+        } else if self.ride(hart, &mut outcome.changed) {
             outcome.kind = StepKind::Worked;
         } else {
             self.step_anew(hart, outcome);

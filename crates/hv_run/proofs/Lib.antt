@@ -1,10 +1,12 @@
 pub mod Changes
+pub mod Counted
 pub mod Guests
 pub mod Inside
 pub mod Lists
 pub mod Moves
 pub mod Orders
 pub mod Promised
+pub mod Refusing
 pub mod Ring
 pub mod Routes
 pub mod Runs

@@ -1,5 +1,5 @@
 -- What a play keeps while it goes on, and what a move changes in it.
-use Rattle.std.specs.Prelude.{ℕ, ◌+◌, ◌≤◌, All, Bool, true, false, not, ◌&&◌, ◌||◌, ◌==◌, if◌then◌else◌, List, []}
+use Rattle.std.specs.Prelude.{◌≡◌, ℕ, ◌+◌, ◌≤◌, All, Bool, true, false, not, ◌&&◌, ◌||◌, ◌==◌, if◌then◌else◌, List, []}
 use Rattle.std.specs.Prelude.{◌∷◌, ◌++◌, length, map, take, Option, Some, None, slice_get}
 use Rattle.hv_word.specs.Storage.{word_at}
 use Rattle.hv_cpu.specs.Regs.{Regs}
@@ -10,6 +10,7 @@ use Rattle.hv_nest.specs.declared.outcome.StepKind.TheVariants.{Worked as Worked
 use Rattle.hv_nest.specs.State.{State}
 use Rattle.hv_nest.specs.Watched.{LineChange, begins, is_outside}
 use Rattle.hv_run.specs.declared.counts.Counts.{Counts}
+use Rattle.hv_run.specs.declared.making.Together.{Together}
 use Rattle.hv_run.specs.Record.{WatchRecord, PlayRecord, fault_record, last_kept}
 use Rattle.hv_limits.specs.Limits.{kept_limit}
 use Rattle.hv_apart.specs.Marked.{is_marked}
@@ -150,6 +151,77 @@ played_after happened next p = record {
   calls = p.calls + 1;
   counts = counts_after p.counts happened;
   watching = all_after happened next p.watching;
+}
+
+-- the watch is of the bare machine, by this hart, so each step of the hart counts
+pub record IsBareBy (hart : ℕ) (w : Watching) : Type 0 where
+  pub same : w.so_far.hart ≡ hart
+  pub path : length w.so_far.path ≡ 0
+
+-- the same of each watch
+abbrev pub AreBareBy : ℕ → List Watching → Type 0
+AreBareBy hart [] = Unit {0}
+AreBareBy hart (w ∷ ws) = IsBareBy hart w × AreBareBy hart ws
+
+-- what is told of a watch after n steps more that counted
+abbrev pub with_count : ℕ → WatchRecord → WatchRecord
+with_count n w = record w { count = w.count + n }
+
+-- a watch after n steps that counted, which left this state
+abbrev pub counted_after : ℕ → State → Watching → Watching
+counted_after n next w = record {
+  so_far = with_count n w.so_far;
+  foot = w.foot;
+  status = (if n == 0 then w.status else status_at w.so_far.hart w.so_far.block next);
+}
+
+-- the same of all watches
+abbrev pub all_counted : ℕ → State → List Watching → List Watching
+all_counted n next ws = map (counted_after n next) ws
+
+-- a play after n steps that counted for each watch, with the numbers and the state that they left
+abbrev pub counted_played : ℕ → Counts → State → Played → Played
+counted_played n counts next p = record {
+  calls = p.calls + n;
+  counts = counts;
+  watching = all_counted n next p.watching;
+}
+
+-- the watch is of a machine on this path, by this hart, so each step of the hart that works counts
+pub record IsInsideBy (hart : ℕ) (running : List ℕ) (w : Watching) : Type 0 where
+  pub same : w.so_far.hart ≡ hart
+  pub path : begins w.so_far.path running ≡ true
+
+-- the same of each watch
+abbrev pub AreInsideBy : ℕ → List ℕ → List Watching → Type 0
+AreInsideBy hart running [] = Unit {0}
+AreInsideBy hart running (w ∷ ws) = IsInsideBy hart running w × AreInsideBy hart running ws
+
+-- the steps that are told together count for each watch: all of them, or those that work
+pub record CountTogether (together : Together) (hart : ℕ) (running : List ℕ) (ws : List Watching) : Type 0 where
+  pub all : together.all ≡ true → AreBareBy hart ws
+  pub working : together.all ≡ false → together.working ≡ true → AreInsideBy hart running ws
+
+-- how many steps were made: those that worked, and one more, if there was one that was refused
+abbrev pub made_count : ℕ → Bool → ℕ
+made_count worked false = worked
+made_count worked true = worked + 1
+
+-- a watch after steps that worked, and after the move h, if there was one more
+abbrev pub made_after : Happened → ℕ → Bool → State → Watching → Watching
+made_after h worked false next w = counted_after worked next w
+made_after h worked true next w = watched_after h next (counted_after worked next w)
+
+-- the same of all watches
+abbrev pub all_made : Happened → ℕ → Bool → State → List Watching → List Watching
+all_made h worked refused next ws = map (made_after h worked refused next) ws
+
+-- a play after the same, with the numbers and the state that were left
+abbrev pub made_played : Happened → ℕ → Bool → Counts → State → Played → Played
+made_played h worked refused counts next p = record {
+  calls = p.calls + made_count worked refused;
+  counts = counts;
+  watching = all_made h worked refused next p.watching;
 }
 
 -- no number passes that of the moves

@@ -5,6 +5,7 @@ mod counts;
 mod fault;
 mod faults;
 pub mod laws;
+mod making;
 mod moving;
 mod playing;
 mod record;

@@ -1,17 +1,18 @@
 //! A play that goes on: moves of the bare machine, one after another, and what is told of them.
 
-ghost use Rattle.std.specs.Prelude.{◌≡◌, ◌≤◌, ◌+◌, ◌<◌, ◌^◌, ◌-◌, [], ◌∷◌, IfOk, Some, bit_and, length, replicate, slice_get, vec_capacity};
+ghost use Rattle.std.specs.Prelude.{◌≡◌, ◌≢◌, ℕ, true, ◌≤◌, ◌+◌, ◌<◌, ◌^◌, ◌-◌, [], ◌∷◌, IfOk, Some, bit_and, length, replicate, slice_get, vec_capacity};
 ghost use Rattle.hv_limits.specs.Limits.{lines_mask};
 ghost use Rattle.hv_nest.specs.Changes.{differences};
-ghost use Rattle.hv_nest.specs.Move.{StepOf, LinesOf, moved_of, lined_state, last_of};
+ghost use Rattle.hv_nest.specs.Move.{StepOf, LinesOf, moved_of, lined_state, last_of, running_of};
 ghost use Rattle.hv_irq.specs.Events.{hart_of, mask_of, steps_of};
-ghost use Rattle.hv_run.specs.Play.{Stepped, Lined, all_after, played_after, all_so_far, play_record, inside_of, TellsWithin};
+ghost use Rattle.hv_run.specs.Play.{AreBareBy, AreInsideBy, Stepped, Lined, all_after, played_after, all_so_far, play_record, inside_of, TellsWithin};
 ghost use Rattle.hv_run.specs.Promises.{AreBareRunsWith, IsRoutedIn, fault_in};
 ghost use Rattle.hv_run.specs.Record.{moves_of};
 ghost use Rattle.hv_run.specs.Stands.{CanWatch, EachNew, Follows, StandsFor, watches_of};
 
 use crate::counts::Counts;
 use crate::fault::FaultRow;
+use crate::making::{Together, make_all, make_steps};
 use crate::record::{Record, WatchRow};
 use crate::running::Running;
 use crate::starting::start;
@@ -173,10 +174,122 @@ impl Play {
         ensures harts { length (N.state nested.new).harts ≡ length (N.state nested.old).harts }
         ensures stands { Follows self.old (N.state nested.old) self.new (N.state nested.new) (replicate count (StepOf hart)) }
     {
-        let mut outcome = Outcome::none();
-        for _step in 0..count {
-            self.make_turn(nested, hart, &mut outcome);
+        if self.watched.is_empty() {
+            self.unwatched_turns(nested, hart, count);
+        } else if self.is_bare_by(hart) {
+            self.bare_turns(nested, hart, count);
+        } else {
+            self.told_turns(nested, hart, count);
         }
+    }
+
+    // Makes so many steps of a hart, where nothing is watched.
+    fn unwatched_turns<N: Nested>(&mut self, nested: &mut N, hart: u32, count: u32)
+        requires hart { hart < length (N.state nested.old).harts }
+        requires calls { self.old.calls + count ≤ 2 ^ 62 }
+        requires none { self.old.watching ≡ [] }
+        ensures calls { self.new.calls ≡ self.old.calls + count }
+        ensures harts { length (N.state nested.new).harts ≡ length (N.state nested.old).harts }
+        ensures stands { Follows self.old (N.state nested.old) self.new (N.state nested.new) (replicate count (StepOf hart)) }
+    {
+        make_all(&mut self.counts, nested, hart, &self.running.path, count);
+        self.calls += count as u64;
+    }
+
+    // Makes so many steps of a hart, where something is watched, and tells them.
+    fn told_turns<N: Nested>(&mut self, nested: &mut N, hart: u32, count: u32)
+        requires hart { hart < length (N.state nested.old).harts }
+        requires calls { self.old.calls + count ≤ 2 ^ 62 }
+        requires some { self.old.watching ≢ [] }
+        ensures calls { self.new.calls ≡ self.old.calls + count }
+        ensures harts { length (N.state nested.new).harts ≡ length (N.state nested.old).harts }
+        ensures stands { Follows self.old (N.state nested.old) self.new (N.state nested.new) (replicate count (StepOf hart)) }
+    {
+        let mut outcome = Outcome::none();
+        let mut left = count;
+        while left > 0 {
+            left -= self.some_turns(nested, hart, left, &mut outcome);
+        }
+    }
+
+    // Makes some of so many steps of a hart, at least one, tells them, and answers how many. Those that work are told together
+    // where there is one watch alone, which is of a machine on the path that the hart runs.
+    fn some_turns<N: Nested>(
+        &mut self,
+        nested: &mut N,
+        hart: u32,
+        most: u32,
+        outcome: &mut Outcome,
+    ) -> u32
+        requires hart { hart < length (N.state nested.old).harts }
+        requires some { 1 ≤ most }
+        requires calls { self.old.calls + most ≤ 2 ^ 62 }
+        requires watched { self.old.watching ≢ [] }
+        ensures some { 1 ≤ result }
+        ensures most { result ≤ most }
+        ensures watched { self.new.watching ≢ [] }
+        ensures calls { self.new.calls ≡ self.old.calls + result }
+        ensures harts { length (N.state nested.new).harts ≡ length (N.state nested.old).harts }
+        ensures stands { Follows self.old (N.state nested.old) self.new (N.state nested.new) (replicate result (StepOf hart)) }
+    {
+        if !is_inside(&self.watched, &self.running, nested, hart) {
+            self.one_turn(nested, hart, outcome);
+            return 1;
+        }
+        let path = &self.running.path;
+        let working = Together {
+            all: false,
+            working: true,
+        };
+        let made = make_steps(&mut self.counts, nested, hart, path, working, most, outcome);
+        let count = made.count();
+        self.calls += count as u64;
+        self.watched[0].tell_made(nested, hart, path, made, outcome);
+        count
+    }
+
+    // Whether there is one watch alone, which is of the bare machine, by this hart.
+    fn is_bare_by(&self, hart: u32) -> bool
+        ensures one { result ≡ true → length self.now.watching ≡ 1 }
+        ensures bare { result ≡ true → AreBareBy hart self.now.watching }
+    {
+        self.watched.len() == 1 && self.watched[0].is_bare_by(hart)
+    }
+
+    // Makes so many steps of a hart, all of which count for the only watch. They are told to it together.
+    fn bare_turns<N: Nested>(&mut self, nested: &mut N, hart: u32, count: u32)
+        requires hart { hart < length (N.state nested.old).harts }
+        requires calls { self.old.calls + count ≤ 2 ^ 62 }
+        requires one { length self.old.watching ≡ 1 }
+        requires bare { AreBareBy hart self.old.watching }
+        ensures calls { self.new.calls ≡ self.old.calls + count }
+        ensures harts { length (N.state nested.new).harts ≡ length (N.state nested.old).harts }
+        ensures stands { Follows self.old (N.state nested.old) self.new (N.state nested.new) (replicate count (StepOf hart)) }
+    {
+        make_all(&mut self.counts, nested, hart, &self.running.path, count);
+        self.calls += count as u64;
+        self.watched[0].tell_counted(nested, count);
+    }
+
+    // Makes one step of a hart, and tells it by itself, where something is watched.
+    fn one_turn<N: Nested>(&mut self, nested: &mut N, hart: u32, outcome: &mut Outcome)
+        requires hart { hart < length (N.state nested.old).harts }
+        requires calls { self.old.calls < 2 ^ 62 }
+        requires watched { self.old.watching ≢ [] }
+        ensures calls { self.new.calls ≡ self.old.calls + 1 }
+        ensures watched { self.new.watching ≢ [] }
+        ensures harts { length (N.state nested.new).harts ≡ length (N.state nested.old).harts }
+        ensures stands { Follows self.old (N.state nested.old) self.new (N.state nested.new) (StepOf hart ∷ []) }
+    {
+        self.running.find(nested, hart, &self.watched);
+        let path = &self.running.path;
+        let none = Together {
+            all: false,
+            working: false,
+        };
+        let _made = make_steps(&mut self.counts, nested, hart, path, none, 1, outcome);
+        self.calls += 1;
+        step_all(&mut self.watched, nested, hart, &self.running, outcome);
     }
 
     // Makes one step of a hart, as `turn` does. The step's outcome is told in `outcome`, which may hold any before.
@@ -207,6 +320,21 @@ impl Play {
         self.calls += 1;
         line_all(&mut self.watched, nested);
     }
+}
+
+// Whether there is one watch alone, of a machine on the path of `running`, and the hart runs the machine on that path.
+fn is_inside<N: Nested>(watched: &[Watched], running: &Running, nested: &N, hart: u32) -> bool
+    requires hart { hart < length (N.state nested.now).harts }
+    requires inside { running.now.inside.items ≡ inside_of running.now.path watched.now }
+    ensures one { result ≡ true → length watched.now ≡ 1 }
+    ensures inside { result ≡ true → AreInsideBy hart running.now.path watched.now }
+    ensures path { result ≡ true → running.now.path ≡ running_of (N.state nested.now) hart }
+{
+    if watched.len() != 1 {
+        return false;
+    }
+    let one = &watched[0];
+    one.hart == hart && running.inside[0] && nested.runs(hart, &running.path)
 }
 
 // Tells each watch a step of a hart, which ran the machine on the path of `running` before it.

@@ -1,13 +1,14 @@
 //! One watch of a play.
 
-ghost use Rattle.std.specs.Prelude.{◌≡◌, ◌<◌, ◌≤◌, ◌*◌, ◌^◌, ◌||◌, ◌++◌, ◌∷◌, [], IfOk, length, take, vec_capacity};
+ghost use Rattle.std.specs.Prelude.{◌≡◌, ◌<◌, ◌≤◌, ◌+◌, true, ◌*◌, ◌^◌, ◌||◌, ◌++◌, ◌∷◌, [], IfOk, length, take, vec_capacity};
 ghost use Rattle.hv_word.specs.Storage.{word_at};
 ghost use Rattle.hv_map.specs.Apart.{is_one, is_apart};
 ghost use Rattle.hv_map.specs.Chain.{map_along};
 ghost use Rattle.hv_nest.specs.Watched.{begins, foot, is_outside, last_block};
-ghost use Rattle.hv_run.specs.Play.{Stepped, Lined, any_marked, counts_step, status_at, status_differs, watched_after, watching_beside};
+ghost use Rattle.hv_run.specs.Play.{IsBareBy, Stepped, Lined, any_marked, counted_after, counts_step, made_after, made_count, status_at, status_differs, watched_after, watching_beside};
 ghost use Rattle.hv_limits.specs.Limits.{kept_limit};
 
+use crate::making::Made;
 use crate::record::WatchRow;
 use hv_apart::Footing;
 use hv_limits::{KEPT, LINES};
@@ -122,6 +123,47 @@ impl Watched {
             return;
         }
         self.tell_beside(&outcome.changed, status);
+    }
+
+    /// Whether the watch is of the bare machine, by this hart, so that each step of the hart counts.
+    #[inline(always)]
+    pub(crate) fn is_bare_by(&self, hart: u32) -> bool
+        ensures { result ≡ true → IsBareBy hart self.now }
+    {
+        self.hart == hart && self.path.len() == 0
+    }
+
+    /// Tells so many steps that counted, the last of which left the engine as it is.
+    pub(crate) fn tell_counted<N: Nested>(&mut self, nested: &N, made: u32)
+        requires { self.old.so_far.count + made < 2 ^ 63 }
+        ensures { self.new ≡ counted_after made (N.state nested.now) self.old }
+    {
+        if made != 0 {
+            self.status = self.status_now(nested);
+        }
+        self.count += made as u64;
+    }
+
+    /// Tells steps that were made of a hart, which ran the machine on the path `running`; `outcome` is that of the last.
+    #[inline(never)]
+    pub(crate) fn tell_made<N: Nested>(
+        &mut self,
+        nested: &N,
+        hart: u32,
+        running: &Path,
+        made: Made,
+        outcome: &Outcome,
+    )
+        requires count { self.old.so_far.count + made_count made.worked made.refused ≤ 2 ^ 62 }
+        requires total { self.old.so_far.line_total < 2 ^ 62 }
+        requires inside { begins self.old.so_far.path running.now ≡ true }
+        ensures { self.new ≡ made_after (Stepped hart running.now outcome.now.kind outcome.now.changed) made.worked made.refused
+            (N.state nested.now) self.old }
+    {
+        self.tell_counted(nested, made.worked);
+        if made.refused {
+            self.tell_step(nested, hart, running, true, outcome);
+        }
     }
 
     /// Tells a change of a hart's lines.

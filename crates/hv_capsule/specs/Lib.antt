@@ -1,0 +1,4 @@
+pub mod Parked
+pub mod Text
+pub mod Lines
+pub mod Kinds

@@ -1,0 +1,9 @@
+mod Blocks
+mod Continuing
+mod Copying
+mod Edits
+mod Firsts
+mod Moving
+mod PlacedRuns
+mod Standing
+mod Writing

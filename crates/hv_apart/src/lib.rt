@@ -11,5 +11,6 @@ mod standing;
 mod upgrading;
 
 pub use foot::Footing;
-pub use standing::{apart, one_to_one};
+pub use marks::Marks;
+pub use standing::{add_readable, apart, one_to_one, standing_pages};
 pub use upgrading::{UpgradeEnd, upgrade};

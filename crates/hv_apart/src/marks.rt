@@ -14,13 +14,14 @@ const WORDS: usize = PAGES as usize / 32;
 
 /// The bare pages that were added so far, and whether they are all different.
 #[derive(Drop)]
-pub(crate) struct Marks {
+pub struct Marks {
     words: [u32; WORDS],
     pub(crate) distinct: bool,
 }
 
 impl Marks {
-    pub(crate) fn new() -> Marks
+    /// None so far.
+    pub fn new() -> Marks
         ensures { Tells result [] }
     {
         Marks {
@@ -29,7 +30,8 @@ impl Marks {
         }
     }
 
-    pub(crate) fn add(&mut self, page: u32)
+    /// Adds a bare page.
+    pub fn add(&mut self, page: u32)
         requires { page < pages_limit }
         ensures { Added self.old self.new (page ∷ []) }
     {
@@ -39,7 +41,7 @@ impl Marks {
     }
 
     /// Adds the page, if there is one.
-    pub(crate) fn add_found(&mut self, page: Option<u32>)
+    pub fn add_found(&mut self, page: Option<u32>)
         requires { IfSome page (λ g. g < pages_limit) }
         ensures { Added self.old self.new (option_to_list page) }
     {
@@ -49,7 +51,7 @@ impl Marks {
     }
 
     /// Whether the page was added.
-    pub(crate) fn has(&self, page: u32) -> bool
+    pub fn has(&self, page: u32) -> bool
         ensures { result ≡ is_marked self.now.words page }
     {
         is_set(&self.words, page)

@@ -33,8 +33,8 @@ pub fn apart(store: &Store, chain: &Chain) -> bool
     standing_pages(store, chain).distinct
 }
 
-/// Those bare pages.
-pub(crate) fn standing_pages(store: &Store, chain: &Chain) -> Marks
+/// Those bare pages; it takes no memory.
+pub fn standing_pages(store: &Store, chain: &Chain) -> Marks
     requires { pin_of store.now (map syllable_of chain.now) ≡ Some chain.now }
     ensures { Tells result (standing_on store.now chain.now) }
 {
@@ -43,6 +43,16 @@ pub(crate) fn standing_pages(store: &Store, chain: &Chain) -> Marks
     add_tables(&mut marks, store, chain);
     add_pages(&mut marks, store, chain);
     marks
+}
+
+/// Adds those that are there for no block: the tables and directories as far as they can be read, and the pages that the
+/// machine can read.
+pub fn add_readable(marks: &mut Marks, store: &Store, chain: &Chain)
+    requires { pin_of store.now (map syllable_of chain.now) ≡ Some chain.now }
+    ensures { Added marks.old marks.new (tables_along store.now (identity (page_count store.now)) 0 chain.now ++ open_pages (map_along store.now chain.now)) }
+{
+    add_tables(marks, store, chain);
+    add_pages(marks, store, chain);
 }
 
 // The blocks of the machines on the chain.

@@ -1,0 +1,4 @@
+pub mod Equal
+pub mod May
+pub mod Settled
+pub mod Untouched

@@ -1,0 +1,14 @@
+pub mod Pieces
+pub mod Changes
+pub mod Same
+pub mod Flats
+pub mod Undoing
+pub mod Changed
+pub mod Peeled
+pub mod Wrong
+pub mod Lined
+pub mod Spelling
+pub mod Led
+pub mod Alone
+pub mod Parking
+pub mod Once

@@ -8,3 +8,4 @@ pub mod Told
 pub mod Shown
 pub mod Started
 pub mod Twins
+pub mod Saved

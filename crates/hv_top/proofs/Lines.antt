@@ -40,3 +40,7 @@ lines_end n old s all none rest =
 pub lines_start : (o : Output) → in_front [] o ≡ o
 lines_start (Text text) = refl
 lines_start (Refusal text) = refl
+
+pub none_left : (s : List ℕ) → length s ≡ 0 → length (lines_of s) ≡ 0
+unfolding lines_of cut_of
+none_left s none = ap (λ s. length (lines_of s)) (nil_from_length s none)

@@ -2,7 +2,7 @@
 use Rattle.std.specs.Prelude.{ℕ, Bool, true, false, List, [], Option, IfSome, Result, Ok, Err}
 use Rattle.hv_load.specs.Generator.{gen_job_of}
 use Rattle.hv_words.specs.declared.Command.{Command}
-use Rattle.hv_words.specs.declared.Command.TheVariants.{Run, Check, Asm, Dis, Debug, Gen}
+use Rattle.hv_words.specs.declared.Command.TheVariants.{Run, Check, Asm, Dis, Debug, Save, Gen}
 use Rattle.hv_words.specs.declared.Usage.{Usage}
 use Rattle.hv_top.specs.Output.{Output}
 use Rattle.hv_top.specs.Asm.{asm_output}
@@ -11,6 +11,7 @@ use Rattle.hv_top.specs.Debug.{debug_output}
 use Rattle.hv_top.specs.Dis.{dis_output}
 use Rattle.hv_top.specs.Gen.{gen_output}
 use Rattle.hv_top.specs.Run.{run_output, JobIsPromised, TextIsPromised}
+use Rattle.hv_top.specs.Save.{save_output}
 
 -- what is written for an input
 unfoldable pub output_of : Command → List ℕ → Output
@@ -19,6 +20,7 @@ output_of Check input = check_output input
 output_of Asm input = asm_output input
 output_of Dis input = dis_output input
 output_of Debug input = debug_output input
+output_of Save input = save_output input
 output_of (Gen number) input = gen_output number
 
 -- a command reads an input, unless it makes its own job
@@ -28,6 +30,7 @@ reads_input Check = true
 reads_input Asm = true
 reads_input Dis = true
 reads_input Debug = true
+reads_input Save = true
 reads_input (Gen number) = false
 
 -- the words name a command that reads an input
@@ -52,4 +55,5 @@ IsPromised Check input = TextIsPromised input
 IsPromised Asm input = Unit {0}
 IsPromised Dis input = Unit {0}
 IsPromised Debug input = Unit {0}
+IsPromised Save input = TextIsPromised input
 IsPromised (Gen number) input = JobIsPromised (gen_job_of number)

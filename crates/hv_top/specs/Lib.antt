@@ -5,6 +5,8 @@ pub mod Dis
 pub mod Shown
 pub mod Jobs
 pub mod Run
+pub mod First
+pub mod Save
 pub mod Opening
 pub mod Check
 pub mod Debug

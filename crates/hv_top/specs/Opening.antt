@@ -10,7 +10,7 @@ use Rattle.hv_top.specs.declared.answer.Answer.{Answer}
 use Rattle.hv_top.specs.declared.opening.Opening.{Opening}
 use Rattle.hv_top.specs.declared.opening.Opening.TheVariants.{Ready, Refused}
 use Rattle.hv_top.specs.Answer.{output_in}
-use Rattle.hv_top.specs.Jobs.{started_output, told_output}
+use Rattle.hv_top.specs.Jobs.{answer_behind, started_answer}
 use Rattle.hv_top.specs.Output.{Output}
 use Rattle.hv_top.specs.Run.{JobIsPromised, TextIsPromised}
 
@@ -20,16 +20,19 @@ pub record IsBuilt (job : Job) (start : Start) : Type 0 where
   pub built : build_of job ≡ Ok start
   pub ready : IsReady job start
 
--- this answer is what is written, whatever is told of a job and its start
-abbrev pub IsWritten : Answer → ((Job → Start → List ℕ) → Output) → Type 0
-IsWritten answer output = (tell : Job → Start → List ℕ) → output_in answer ≡ output tell
+-- this answer is what is written, whatever is answered for a job and its start
+abbrev pub IsWritten : Answer → ((Job → Start → Output) → Output) → Type 0
+IsWritten answer output = (answering : Job → Start → Output) → output_in answer ≡ output answering
 
--- the job with its start; or the refusal of it, for which there is nothing to promise
-abbrev pub IsStarting : Job → Opening → Type 0
-IsStarting job (Ready own start) = (own ≡ job) × IsBuilt job start
-IsStarting job (Refused answer) = IsWritten answer (λ tell. started_output tell job) × JobIsPromised job
+-- the job with its start; or the refusal of it, for which there is nothing to promise; so many lines stand before it
+abbrev pub IsStarting : (before : ℕ) → Job → Opening → Type 0
+IsStarting before job (Ready own start) = (own ≡ job) × IsBuilt job start
+IsStarting before job (Refused answer) =
+    IsWritten answer (λ answering. started_answer before answering job) × JobIsPromised job
 
--- the job that a text is with its start; or the refusal of the text, for which there is nothing to promise
-abbrev pub IsOpening : List ℕ → Opening → Type 0
-IsOpening text (Ready job start) = (job_of text ≡ Ok job) × IsBuilt job start
-IsOpening text (Refused answer) = IsWritten answer (λ tell. told_output tell text) × TextIsPromised text
+-- the job that a text is with its start; or the refusal of the text, for which there is nothing to promise; so many lines
+-- stand before the text
+abbrev pub IsOpening : (before : ℕ) → List ℕ → Opening → Type 0
+IsOpening before text (Ready job start) = (job_of text ≡ Ok job) × IsBuilt job start
+IsOpening before text (Refused answer) =
+    IsWritten answer (λ answering. answer_behind before answering text) × TextIsPromised text

@@ -12,6 +12,7 @@ use crate::debugging::debugged;
 use crate::dis::disassembled;
 use crate::generating::generated;
 use crate::running::reported;
+use crate::saving::saved;
 use hv_text::{put, put_line, put_number};
 use hv_words::Command;
 use std::alloc::{AllocError, Global};
@@ -37,6 +38,7 @@ pub fn answer_to(alloc: Global, command: Command, input: &[u8]) -> Result<Answer
         Command::Asm => assembled(alloc, input),
         Command::Dis => disassembled(alloc, input),
         Command::Debug => debugged(alloc, input),
+        Command::Save => saved(alloc, input),
         Command::Gen { number } => generated(alloc, number),
     }
 }
@@ -53,11 +55,11 @@ pub fn written(text: Vec<u8>) -> Answer
 }
 
 /// The refusal of the line of this number.
-pub fn refused(alloc: Global, line: u32, kind: &str) -> Result<Answer, AllocError>
+pub fn refused(alloc: Global, line: u64, kind: &str) -> Result<Answer, AllocError>
     ensures { IfOk result (λ answer. output_in answer ≡ refusal line kind.now) }
 {
     let mut text = Vec::new(alloc);
-    put_number(&mut text, b"refused line ", u64::from(line))?;
+    put_number(&mut text, b"refused line ", line)?;
     put(&mut text, b": ")?;
     put_line(&mut text, kind.as_bytes())?;
     Ok(Answer {

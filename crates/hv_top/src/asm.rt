@@ -22,7 +22,7 @@ pub fn assembled(alloc: Global, input: &[u8]) -> Result<Answer, AllocError>
             put_words(&mut text, image.words.as_slice())?;
             Ok(written(text))
         }
-        Err(AsmEnd::AsmFault { line, kind }) => refused(alloc, line, kind.word()),
+        Err(AsmEnd::AsmFault { line, kind }) => refused(alloc, u64::from(line), kind.word()),
         Err(AsmEnd::Memory) => Err(AllocError),
     }
 }

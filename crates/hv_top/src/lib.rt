@@ -17,10 +17,12 @@ mod debugging;
 mod dis;
 #[cfg(test)]
 mod engine_tests;
+mod first;
 mod generating;
 mod opening;
 mod playing;
 mod running;
+mod saving;
 #[cfg(test)]
 mod tests;
 
@@ -150,8 +152,12 @@ fn reads_input(command: Command) -> bool
     ensures { result ≡ reads_input_of command }
 {
     match command {
-        Command::Run { plain: _ } | Command::Check | Command::Asm | Command::Dis | Command::Debug =>
-            { true }
+        Command::Run { plain: _ }
+        | Command::Check
+        | Command::Asm
+        | Command::Dis
+        | Command::Debug
+        | Command::Save => true,
         Command::Gen { number: _ } => false,
     }
 }

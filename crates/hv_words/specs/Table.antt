@@ -4,7 +4,7 @@ use Rattle.std.specs.Prelude.{List, [], ◌∷◌, length, Option, Some, None, R
 use Rattle.std.specs.Str.{all_ascii_digits, bytes_eq}
 use Rattle.std.specs.Str.Parse.{digits_value}
 use Rattle.hv_words.specs.declared.Command.{Command}
-use Rattle.hv_words.specs.declared.Command.TheVariants.{Run, Check, Asm, Dis, Debug, Gen}
+use Rattle.hv_words.specs.declared.Command.TheVariants.{Run, Check, Asm, Dis, Debug, Save, Gen}
 use Rattle.hv_words.specs.declared.Usage.{Usage}
 
 -- a list of words, and the command that it names
@@ -21,6 +21,7 @@ table =
     record { words = codes "asm" ∷ []; command = Asm } ∷
     record { words = codes "dis" ∷ []; command = Dis } ∷
     record { words = codes "debug" ∷ []; command = Debug } ∷
+    record { words = codes "save" ∷ []; command = Save } ∷
     []
 
 -- as many words, each the same

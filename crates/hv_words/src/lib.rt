@@ -17,6 +17,8 @@ pub enum Command {
     Dis,
     /// `debug`: run a job's debugger commands.
     Debug,
+    /// `save`: run a job, and write its first watched machine as a text.
+    Save,
     /// `gen N`: make the job of a number and run it.
     Gen { number: u32 },
 }
@@ -46,6 +48,7 @@ fn of_one(word: &str) -> Result<Command, Usage>
         "asm" => Ok(Command::Asm),
         "dis" => Ok(Command::Dis),
         "debug" => Ok(Command::Debug),
+        "save" => Ok(Command::Save),
         _ => Err(Usage),
     }
 }

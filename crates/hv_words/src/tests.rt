@@ -26,6 +26,7 @@ fn parsed(alloc: Global, words: &[&str]) -> Result<Option<Command>, clap::Error>
         Some("asm") => Some(Command::Asm),
         Some("dis") => Some(Command::Dis),
         Some("debug") => Some(Command::Debug),
+        Some("save") => Some(Command::Save),
         Some("gen") => match matches.get_one::<u32>("number") {
             Some(number) => Some(Command::Gen { number }),
             None => None,
@@ -37,13 +38,14 @@ fn parsed(alloc: Global, words: &[&str]) -> Result<Option<Command>, clap::Error>
 #[test]
 fn the_rows_are_read_as_a_parser_reads_them(rt: HostRuntime) -> Result<(), Fail> {
     let alloc = rt.alloc();
-    let rows: [&[&str]; 9] = [
+    let rows: [&[&str]; 10] = [
         &["run"],
         &["run", "--plain"],
         &["check"],
         &["asm"],
         &["dis"],
         &["debug"],
+        &["save"],
         &["gen", "0"],
         &["gen", "5"],
         &["gen", "4294967295"],
